@@ -1,0 +1,11 @@
+pub mod Parts
+pub mod Ints
+pub mod Machine
+pub mod VectorLaws
+pub mod DivisorLaws
+pub mod MultipleLaws
+pub mod OrderLaws
+pub mod BoxLaws
+pub mod ExtremeLaws
+pub mod Digits
+pub mod Padding

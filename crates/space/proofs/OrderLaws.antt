@@ -1,0 +1,106 @@
+-- Laws of box order: it is strict and total, and the first entry of q - p that is not 0 decides it.
+use mathlib.Core.Path.{_≡_, refl, sym, ap₂, _∙_}
+use mathlib.Core.Logic.{_⊎_, inl, inr, ⊎-elim}
+use mathlib.Core.Bool.{Bool}
+use mathlib.Core.List.{List, [], _∷_}
+use Prim.Native.Nat.{ℕ, zero, suc}
+use native.Mathlib.Nat.{suc-inj}
+use native.Mathlib.Omega.{arith}
+use lib.ListN.{length}
+use lib.IntN.{ℤ, pos, _+ℤ_, _-ℤ_, _*ℤ_}
+use lib.Signed.{_<ℤ_, _≤ℤ_}
+use Rattle.space.specs.Numbers.{Tells}
+use Rattle.space.specs.Vectors.{plusOf, minusOf, timesOf}
+use Rattle.space.specs.Order.{Before, Forward}
+use Rattle.space.specs.Multiples.{NonZero}
+use Rattle.space.proofs.Parts.{int, sum, difference}
+use Rattle.space.proofs.Ints.{trichotomy, *ℤ-positive, -ℤ-*ℤ, times-none}
+
+pub before-irreflexive : (p : List ℤ) → Before p p → ⊥
+unfolding Before
+before-irreflexive [] h = h
+before-irreflexive (x ∷ xs) (inl h) = omega int
+before-irreflexive (x ∷ xs) (inr h) = before-irreflexive xs (h .1)
+
+pub before-trans : (p q r : List ℤ) → Before p q → Before q r → Before p r
+unfolding Before
+before-trans [] q r h k = h
+before-trans (x ∷ xs) [] r h k = absurd h
+before-trans (x ∷ xs) (y ∷ ys) [] h k = k
+before-trans (x ∷ xs) (y ∷ ys) (z ∷ zs) (inl h) (inl k) = inl (omega int)
+before-trans (x ∷ xs) (y ∷ ys) (z ∷ zs) (inl h) (inr k) = let e = k .0 in inl (omega int)
+before-trans (x ∷ xs) (y ∷ ys) (z ∷ zs) (inr h) (inl k) = let e = h .0 in inl (omega int)
+before-trans (x ∷ xs) (y ∷ ys) (z ∷ zs) (inr h) (inr k) = inr (h .0 ∙ k .0, before-trans xs ys zs (h .1) (k .1))
+
+-- of two vectors of one length, one stands before the other or they are the same
+pub before-total : (p q : List ℤ) → length p ≡ length q → Before p q ⊎ ((p ≡ q) ⊎ Before q p)
+unfolding Before
+before-total [] [] e = inr (inl refl)
+before-total [] (y ∷ ys) e = absurd (omega arith)
+before-total (x ∷ xs) [] e = absurd (omega arith)
+before-total (x ∷ xs) (y ∷ ys) e = by (trichotomy x y) (before-total xs ys (suc-inj e))
+  where
+    by : (x <ℤ y) ⊎ ((x ≡ y) ⊎ (y <ℤ x)) → Before xs ys ⊎ ((xs ≡ ys) ⊎ Before ys xs) → Before (x ∷ xs) (y ∷ ys) ⊎ ((_≡_ {A = List ℤ} (x ∷ xs) (y ∷ ys)) ⊎ Before (y ∷ ys) (x ∷ xs))
+    by (inl h) r = inl (inl h)
+    by (inr (inr h)) r = inr (inr (inl h))
+    by (inr (inl h)) (inl r) = inl (inr (h, r))
+    by (inr (inl h)) (inr (inl r)) = inr (inl (ap₂ _∷_ h r))
+    by (inr (inl h)) (inr (inr r)) = inr (inr (inr (sym h, r)))
+
+-- p stands before q exactly if q - p points forward
+pub before-forward : (p q : List ℤ) → Before p q → Forward (minusOf q p)
+unfolding Before Forward minusOf
+before-forward [] q h = absurd h
+before-forward (x ∷ xs) [] h = absurd h
+before-forward (x ∷ xs) (y ∷ ys) (inl h) = inl (omega (int, difference y x))
+before-forward (x ∷ xs) (y ∷ ys) (inr h) = let e = h .0 in inr (omega (int, difference y x), before-forward xs ys (h .1))
+
+pub forward-before : (p q : List ℤ) → Forward (minusOf q p) → Before p q
+unfolding Before Forward minusOf
+forward-before p [] h = absurd h
+forward-before [] (y ∷ ys) h = absurd h
+forward-before (x ∷ xs) (y ∷ ys) (inl h) = inl (omega (int, difference y x))
+forward-before (x ∷ xs) (y ∷ ys) (inr h) = let e = h .0 in inr (omega (int, difference y x), forward-before xs ys (h .1))
+
+-- a positive multiple points forward as its vector does, and one that points forward is not 0
+pub forward-times : (z : ℤ) (v : List ℤ) → pos 0 <ℤ z → Forward v → Forward (timesOf z v)
+unfolding Forward timesOf
+forward-times z [] k h = h
+forward-times z (x ∷ xs) k (inl h) = inl (*ℤ-positive z x k h)
+forward-times z (x ∷ xs) k (inr h) = inr (times-none z (h .0), forward-times z xs k (h .1))
+
+pub forward-nonzero : (v : List ℤ) → Forward v → NonZero v
+unfolding Forward
+forward-nonzero [] h = h
+forward-nonzero (x ∷ xs) (inl h) = inl (λ e. omega int)
+forward-nonzero (x ∷ xs) (inr h) = inr (forward-nonzero xs (h .1))
+
+-- whether a vector points forward is told by its first entry, or, where that is 0, by the others
+pub told-first : {x : ℤ} {r : Bool} (xs : List ℤ) → (x ≡ pos 0 → ⊥) → Tells (pos 0 <ℤ x) r → Tells (Forward (x ∷ xs)) r
+unfolding Forward
+told-first xs n t = record { holds = λ e. inl (t .holds e); fails = λ e. ⊎-elim (t .fails e) (λ h. n (h .0)) }
+
+pub told-later : {x : ℤ} {r : Bool} (xs : List ℤ) → x ≡ pos 0 → Tells (Forward xs) r → Tells (Forward (x ∷ xs)) r
+unfolding Forward
+told-later xs z t = record { holds = λ e. inr (z, t .holds e); fails = λ e. ⊎-elim (λ h. omega int) (λ h. t .fails e (h .1)) }
+
+pub told-last : {x : ℤ} {r : Bool} → Tells (pos 0 <ℤ x) r → Tells (Forward (x ∷ [])) r
+unfolding Forward
+told-last t = record { holds = λ e. inl (t .holds e); fails = λ e. ⊎-elim (t .fails e) (λ h. h .1) }
+
+-- the points p + f v come in the order of f, where v points forward: with f from 1 to g - 1 they stand strictly between p and p + g v
+pub along-before : (p v : List ℤ) (f g : ℤ) → length p ≡ length v → Forward v → f <ℤ g → Before (plusOf p (timesOf f v)) (plusOf p (timesOf g v))
+unfolding Before Forward plusOf timesOf
+along-before p [] f g e h k = absurd h
+along-before [] (x ∷ xs) f g e h k = absurd (omega arith)
+along-before (a ∷ p) (x ∷ xs) f g e (inl h) k = inl (further a x f g h k)
+  where
+    further : (a x f g : ℤ) → pos 0 <ℤ x → f <ℤ g → (a +ℤ f *ℤ x) <ℤ (a +ℤ g *ℤ x)
+    further a x f g h k =
+        let m = *ℤ-positive (g -ℤ f) x (omega (int, difference g f)) h in
+        let d = -ℤ-*ℤ g f x in
+        omega (int, difference (g *ℤ x) (f *ℤ x), sum a (f *ℤ x), sum a (g *ℤ x))
+along-before (a ∷ p) (x ∷ xs) f g e (inr h) k = inr (level a x f g (h .0), along-before p xs f g (suc-inj e) (h .1) k)
+  where
+    level : (a x f g : ℤ) → x ≡ pos 0 → a +ℤ f *ℤ x ≡ a +ℤ g *ℤ x
+    level a x f g e = rw (times-none f e, times-none g e)

@@ -1,0 +1,66 @@
+-- 'Box: bounds l ≤ u for each' dimension, of any number of them; its points and their places in box order.
+use mathlib.Core.Path.{_≡_}
+use mathlib.Core.List.{List, [], _∷_}
+use Prim.Native.Nat.{ℕ, _+_, _*_, _/_, _%_}
+use lib.IntN.{ℤ, pos, _+ℤ_}
+use lib.Signed.{_≤ℤ_}
+use Rattle.space.specs.Numbers.{steps}
+use Rattle.space.specs.Vectors.{dotOf}
+use Rattle.space.specs.declared.bounds.Bounds.{Bounds}
+
+-- the bounds of one dimension
+pub record Side : Type 0 where
+  pub low : ℤ
+  pub high : ℤ
+
+abbrev pub Box : Type 0
+Box = List Side
+
+abbrev pub side : ℤ → ℤ → Side
+side l u = record { low = l; high = u }
+
+-- the box that the code's bounds are
+abbrev pub boxOf : Bounds → Box
+boxOf b =
+    side (b .low .x0) (b .high .x0) ∷ side (b .low .x1) (b .high .x1) ∷ side (b .low .x2) (b .high .x2) ∷ side (b .low .x3) (b .high .x3) ∷ []
+
+-- p is a point of the box
+unfoldable pub In : Box → List ℤ → Type 0
+In [] [] = Unit {0}
+In [] (x ∷ xs) = ⊥
+In (s ∷ ss) [] = ⊥
+In (s ∷ ss) (x ∷ xs) = (s .low ≤ℤ x) × (x ≤ℤ s .high) × In ss xs
+
+-- l ≤ u for each
+unfoldable pub Solid : Box → Type 0
+Solid [] = Unit {0}
+Solid (s ∷ ss) = (s .low ≤ℤ s .high) × Solid ss
+
+-- how many points a side has, and the box
+abbrev pub across : Side → ℕ
+across s = steps (s .low) (s .high +ℤ pos 1)
+
+unfoldable pub countOf : Box → ℕ
+countOf [] = 1
+countOf (s ∷ ss) = across s * countOf ss
+
+-- the place of a point in box order
+unfoldable pub placeOf : Box → List ℤ → ℕ
+placeOf [] xs = 0
+placeOf (s ∷ ss) [] = 0
+placeOf (s ∷ ss) (x ∷ xs) = steps (s .low) x * countOf ss + placeOf ss xs
+
+-- the point at a place
+unfoldable pub pointOf : Box → ℕ → List ℤ
+pointOf [] k = []
+pointOf (s ∷ ss) k = (s .low +ℤ pos (k / countOf ss)) ∷ pointOf ss (k % countOf ss)
+
+-- r is the least product of h and a point of the box
+pub record Least (h : List ℤ) (B : Box) (r : ℤ) : Type 0 where
+  pub met : (p : List ℤ) × In B p × (dotOf h p ≡ r)
+  pub below : (p : List ℤ) → In B p → r ≤ℤ dotOf h p
+
+-- and the greatest
+pub record Greatest (h : List ℤ) (B : Box) (r : ℤ) : Type 0 where
+  pub met : (p : List ℤ) × In B p × (dotOf h p ≡ r)
+  pub above : (p : List ℤ) → In B p → dotOf h p ≤ℤ r

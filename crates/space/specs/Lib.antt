@@ -1,0 +1,6 @@
+pub mod Numbers
+pub mod Vectors
+pub mod Divisors
+pub mod Multiples
+pub mod Order
+pub mod Boxes
