@@ -1,7 +1,7 @@
 -- Laws of a box, shown once over its dimensions: places and points undo each other, the order of places is box order, and a box is convex.
 use mathlib.Core.Path.{_≡_, refl, sym, ap, ap₂, _∙_}
 use mathlib.Core.Logic.{_⊎_, inl, inr}
-use mathlib.Core.Bool.{Bool, true, false, _&&_}
+use mathlib.Core.Bool.{Bool, _&&_}
 use mathlib.Core.List.{List, [], _∷_}
 use Prim.Native.Nat.{ℕ, zero, suc, _+_, _*_, _/_, _%_, _<_, _≤_}
 use native.Mathlib.Omega.{arith}
@@ -9,7 +9,7 @@ use native.Mathlib.Nat.{mod-lt, div-lt-iff-lt-mul, div-add-mod', mul-le-mul-righ
 use lib.Arith.{digits-lt, digits-div, digits-mod}
 use lib.ListN.{length}
 use lib.IntN.{ℤ, pos, _+ℤ_, _-ℤ_, _*ℤ_, *ℤ-comm, *ℤ-zero}
-use lib.Signed.{_≤ℤ_, _<ℤ_}
+use lib.Signed.{_≤ℤ_, _<ℤ_, ≤ℤ-refl}
 use Rattle.space.specs.Numbers.{Size, Tells, steps}
 use Rattle.space.specs.Vectors.{entries, plusOf, timesOf, Sizes, Sized}
 use Rattle.space.specs.Order.{Before}
@@ -17,7 +17,7 @@ use Rattle.space.specs.Boxes.{Side, Box, boxOf, In, Solid, across, count
 use Rattle.space.specs.declared.bounds.Bounds.{Bounds}
 use Rattle.space.proofs.Parts.{int, sum, difference, magnitude}
 use Rattle.space.proofs.Ints.{size-between, plus-size, natAbs--, *ℤ-mono, *ℤ-anti, ≤ℤ-or-<, ≤ℤ-trans}
-use Rattle.space.proofs.Machine.{never}
+use Rattle.space.proofs.Telling.{tells-as, tells-and}
 use Rattle.space.proofs.OrderLaws.{before-total}
 
 -- ---- one side
@@ -48,13 +48,11 @@ across-size s p q = steps-size (s .low) (s .high +ℤ pos 1) p (plus-size q (rec
 -- whether a point is in the box is told side by side
 pub told-in : (a b : Bool) (s : Side) (ss : Box) (x : ℤ) (xs : List ℤ) → Tells ((s .low ≤ℤ x) × (x ≤ℤ s .high)) a → Tells (In ss xs) b → Tells (In (s ∷ ss) (x ∷ xs)) (a && b)
 unfolding In
-told-in true true s ss x xs p q = record { holds = λ e. (p .holds refl .0, p .holds refl .1, q .holds refl); fails = λ e. never e }
-told-in true false s ss x xs p q = record { holds = λ e. never (sym e); fails = λ e h. q .fails refl (h .2) }
-told-in false b s ss x xs p q = record { holds = λ e. never (sym e); fails = λ e h. p .fails refl (h .0, h .1) }
+told-in a b s ss x xs p q = tells-as (λ h. (h .0 .0, h .0 .1, h .1)) (λ h. ((h .0, h .1), h .2)) (tells-and a b p q)
 
 pub told-last : {a : Bool} (s : Side) (x : ℤ) → Tells ((s .low ≤ℤ x) × (x ≤ℤ s .high)) a → Tells (In (s ∷ []) (x ∷ [])) a
 unfolding In
-told-last s x p = record { holds = λ e. (p .holds e .0, p .holds e .1, tt); fails = λ e h. p .fails e (h .0, h .1) }
+told-last s x p = tells-as (λ h. (h .0, h .1, tt)) (λ h. (h .0, h .1)) p
 
 -- ---- places and points
 pub in-length : (B : Box) (p : List ℤ) → In B p → length p ≡ length B
@@ -195,6 +193,15 @@ solid-count (s ∷ ss) h = some (steps-below (s .low) (s .low) (s .high) (omega 
   where
     some : {a m n : ℕ} → m < a → 0 < n → 0 < a * n
     some {a} {m} {n} h k = omega (arith, mul-le-mul-right n h)
+
+abbrev pub lowsOf : Box → List ℤ
+lowsOf [] = []
+lowsOf (s ∷ ss) = s .low ∷ lowsOf ss
+
+pub solid-in : (B : Box) → Solid B → In B (lowsOf B)
+unfolding In Solid
+solid-in [] h = tt
+solid-in (s ∷ ss) h = (≤ℤ-refl (s .low), h .0, solid-in ss (h .1))
 
 pub in-solid : (B : Box) (p : List ℤ) → In B p → Solid B
 unfolding In Solid

@@ -9,3 +9,4 @@ pub mod BoxLaws
 pub mod ExtremeLaws
 pub mod Digits
 pub mod Padding
+pub mod Telling

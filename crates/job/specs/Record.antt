@@ -1,0 +1,35 @@
+-- 'A job held as a record': its streams and rows as lists.
+use mathlib.Core.List.{List, [], _∷_}
+use Prim.Native.Nat.{ℕ, suc, _<_, _≤_}
+use lib.IntN.{pos}
+use Rattle.space.specs.declared.Vector.{Vector}
+use Rattle.job.specs.declared.Stream.{Stream}
+use Rattle.job.specs.declared.Job.{Job}
+
+abbrev pub zeroVector : Vector
+zeroVector = record { x0 = pos 0; x1 = pos 0; x2 = pos 0; x3 = pos 0 }
+
+abbrev pub noStream : Stream
+noStream = record { d = zeroVector; kind = 0; rule = 0; a = 0; b = 0 }
+
+abbrev pub streamsOf : Job → List Stream
+streamsOf j = j .s0 ∷ j .s1 ∷ j .s2 ∷ j .s3 ∷ []
+
+-- H, then the rows of S
+abbrev pub rowsOf : Job → List Vector
+rowsOf j = j .time ∷ j .row0 ∷ j .row1 ∷ []
+
+-- P holds of each of the first n, counted from i; and of each of the others
+abbrev pub FirstsFrom : {A : Type 0} → ℕ → (A → Type 0) → ℕ → List A → Type 0
+FirstsFrom i P n [] = Unit {0}
+FirstsFrom i P n (x ∷ xs) = (i < n → P x) × FirstsFrom (suc i) P n xs
+
+abbrev pub OthersFrom : {A : Type 0} → ℕ → (A → Type 0) → ℕ → List A → Type 0
+OthersFrom i P n [] = Unit {0}
+OthersFrom i P n (x ∷ xs) = (n ≤ i → P x) × OthersFrom (suc i) P n xs
+
+abbrev pub Firsts : {A : Type 0} → (A → Type 0) → ℕ → List A → Type 0
+Firsts P n xs = FirstsFrom 0 P n xs
+
+abbrev pub Others : {A : Type 0} → (A → Type 0) → ℕ → List A → Type 0
+Others P n xs = OthersFrom 0 P n xs

@@ -1,0 +1,173 @@
+// Whether a record is acceptable: refusals 3, 6, 7 and 8, each a question of its own.
+use crate::{Job, Stream};
+use space::Vector;
+use space::bounds::Bounds;
+ghost use mathlib.Core.Path.{_≡_};
+ghost use Prim.Native.Nat.{ℕ, _+_, _<_, _≤_};
+ghost use mathlib.Core.Bool.{true, false};
+ghost use lib.IntN.{ℤ};
+ghost use Rattle.space.specs.Numbers.{Tells};
+ghost use Rattle.space.specs.Vectors.{entries, Sized};
+ghost use Rattle.job.specs.Refusals.{First};
+ghost use Rattle.job.specs.Record.{Firsts, Others, streamsOf, rowsOf};
+ghost use Rattle.job.specs.Limits.{Unused, Idle, Shaped, Boxed, Sound, Ruled, Rowed, limits, boundLimit, rowLimit, pointLimit, stepLimit};
+
+// The number of the first limit that the record breaks, 0 for none.
+pub fn number(j: Job) -> u8
+    ensures { λ r. ⌜ First (limits j) r ⌝ }
+{
+    if !is_shaped(j) {
+        return 3;
+    }
+    let b = j.bounds;
+    if !is_boxed(b) {
+        return 6;
+    }
+    if !are_sound(j) {
+        return 7;
+    }
+    if !is_rowed(j) {
+        return 8;
+    }
+    0
+}
+
+// 3: the counts are in range, and every unused place is 0.
+pub fn is_shaped(j: Job) -> bool
+    ensures { λ r. ⌜ Tells (Shaped j) r ⌝ }
+{
+    let n = j.n;
+    let b = j.bounds;
+    let l = b.low;
+    let u = b.high;
+    are_counts(n, j.k, j.m)
+        & ((is_unused(l, n) & is_unused(u, n)) & (streams_shaped(j) & rows_shaped(j)))
+}
+
+// 6: no bound is over its limit in size, l ≤ u for each, and there are not too many points.
+pub fn is_boxed(b: Bounds) -> bool
+    ensures { λ r. ⌜ Tells (Boxed b) r ⌝ }
+{
+    let l = b.low;
+    let u = b.high;
+    if !(is_sized(l, 127) & is_sized(u, 127)) {
+        return false;
+    }
+    // the low corner is a point of the box exactly if l ≤ u for each
+    space::bounds::contains(b, l) & (space::bounds::count(b) <= 1024)
+}
+
+// 7: every stream that is used keeps its line.
+pub fn are_sound(j: Job) -> bool
+    ensures { λ r. ⌜ Tells (Firsts (Sound (j .m)) (j .m) (streamsOf j)) r ⌝ }
+{
+    let m = j.m;
+    let s0 = j.s0;
+    let s1 = j.s1;
+    let s2 = j.s2;
+    let s3 = j.s3;
+    (!(0 < m) | is_sound(s0, m))
+        & ((!(1 < m) | is_sound(s1, m))
+            & ((!(2 < m) | is_sound(s2, m)) & (!(3 < m) | is_sound(s3, m))))
+}
+
+// 8: no entry of H or of the rows of S is over its limit in size.
+pub fn is_rowed(j: Job) -> bool
+    ensures { λ r. ⌜ Tells (Rowed j) r ⌝ }
+{
+    let k = j.k;
+    let h = j.time;
+    let row0 = j.row0;
+    let row1 = j.row1;
+    is_sized(h, 127) & ((!(1 <= k) | is_sized(row0, 127)) & (!(2 <= k) | is_sized(row1, 127)))
+}
+
+// Are n, k and m in range?
+fn are_counts(n: u8, k: u8, m: u8) -> bool
+    ensures { λ r. ⌜ Tells (((1 ≤ n) × (n ≤ 4)) × (((1 ≤ k) × (k ≤ 2)) × ((1 ≤ m) × (m ≤ 4)))) r ⌝ }
+{
+    ((1 <= n) & (n <= 4)) & (((1 <= k) & (k <= 2)) & ((1 <= m) & (m <= 4)))
+}
+
+// Are the coordinates from n on 0?
+fn is_unused(v: Vector, n: u8) -> bool
+    ensures { λ r. ⌜ Tells (Unused n v) r ⌝ }
+{
+    (!(n <= 0) | (v.x0 == 0))
+        & ((!(n <= 1) | (v.x1 == 0)) & ((!(n <= 2) | (v.x2 == 0)) & (!(n <= 3) | (v.x3 == 0))))
+}
+
+// Is every place of the stream 0?
+fn is_idle(s: Stream) -> bool
+    ensures { λ r. ⌜ Tells (Idle s) r ⌝ }
+{
+    let d = s.d;
+    is_unused(d, 0) & ((s.kind == 0) & ((s.rule == 0) & ((s.a == 0) & (s.b == 0))))
+}
+
+// Is a stream that is used 0 from coordinate n on, and one that is not used 0 throughout?
+fn stream_shaped(s: Stream, n: u8, used: bool) -> bool
+    ensures { λ r. ⌜ Tells ((used ≡ true → Unused n (s .d)) × ((used ≡ true → ⊥) → Idle s)) r ⌝ }
+{
+    let d = s.d;
+    (!used | is_unused(d, n)) & (!!used | is_idle(s))
+}
+
+// The same of every stream.
+fn streams_shaped(j: Job) -> bool
+    ensures { λ r. ⌜ Tells (Firsts (λ (s : Stream). Unused (j .n) (s .d)) (j .m) (streamsOf j) × Others Idle (j .m) (streamsOf j)) r ⌝ }
+{
+    let n = j.n;
+    let m = j.m;
+    let s0 = j.s0;
+    let s1 = j.s1;
+    let s2 = j.s2;
+    let s3 = j.s3;
+    stream_shaped(s0, n, 0 < m)
+        & (stream_shaped(s1, n, 1 < m) & (stream_shaped(s2, n, 2 < m) & stream_shaped(s3, n, 3 < m)))
+}
+
+// Is a row that is used 0 from coordinate n on, and one that is not used 0 throughout?
+fn row_shaped(v: Vector, n: u8, used: bool) -> bool
+    ensures { λ r. ⌜ Tells ((used ≡ true → Unused n v) × ((used ≡ true → ⊥) → Unused 0 v)) r ⌝ }
+{
+    (!used | is_unused(v, n)) & (!!used | is_unused(v, 0))
+}
+
+// The same of every row.
+fn rows_shaped(j: Job) -> bool
+    ensures { λ r. ⌜ Tells (Firsts (Unused (j .n)) (1 + j .k) (rowsOf j) × Others (Unused 0) (1 + j .k) (rowsOf j)) r ⌝ }
+{
+    let n = j.n;
+    let k = j.k;
+    let h = j.time;
+    let row0 = j.row0;
+    let row1 = j.row1;
+    row_shaped(h, n, true) & (row_shaped(row0, n, 1 <= k) & row_shaped(row1, n, 2 <= k))
+}
+
+// Is every entry at most that size?
+fn is_sized(v: Vector, most: u64) -> bool
+    ensures { λ r. ⌜ Tells (Sized most (entries v)) r ⌝ }
+{
+    (space::divisor::size(v.x0) <= most)
+        & ((space::divisor::size(v.x1) <= most)
+            & ((space::divisor::size(v.x2) <= most) & (space::divisor::size(v.x3) <= most)))
+}
+
+// Does the stream keep its line: small entries, pointing forward, gcd 1, a kind, a rule with its sources?
+fn is_sound(s: Stream, m: u8) -> bool
+    ensures { λ r. ⌜ Tells (Sound m s) r ⌝ }
+{
+    let d = s.d;
+    (is_sized(d, 15) & space::is_forward(d))
+        & ((space::divisor::gcd_of_entries(d) == 1) & ((s.kind <= 1) & is_ruled(s, m)))
+}
+
+// Rule 0 with sources 0, or rule 1 or 2 with sources below m?
+fn is_ruled(s: Stream, m: u8) -> bool
+    ensures { λ r. ⌜ Tells (Ruled m s) r ⌝ }
+{
+    ((s.rule == 0) & ((s.a == 0) & (s.b == 0)))
+        | ((1 <= s.rule) & ((s.rule <= 2) & ((s.a < m) & (s.b < m))))
+}
