@@ -1,5 +1,6 @@
 // Whether a record is acceptable: refusals 3, 6, 7 and 8, each a question of its own.
-use crate::{Job, Stream};
+use crate::Job;
+use crate::Stream;
 use space::Vector;
 use space::bounds::Bounds;
 ghost use mathlib.Core.Path.{_≡_};
@@ -124,7 +125,8 @@ fn streams_shaped(j: Job) -> bool
     let s2 = j.s2;
     let s3 = j.s3;
     stream_shaped(s0, n, 0 < m)
-        & (stream_shaped(s1, n, 1 < m) & (stream_shaped(s2, n, 2 < m) & stream_shaped(s3, n, 3 < m)))
+        & (stream_shaped(s1, n, 1 < m)
+            & (stream_shaped(s2, n, 2 < m) & stream_shaped(s3, n, 3 < m)))
 }
 
 // Is a row that is used 0 from coordinate n on, and one that is not used 0 throughout?

@@ -10,6 +10,7 @@ use Rattle.space.specs.Boxes.{Side, boxOf}
 use Rattle.job.specs.declared.Stream.{Stream}
 use Rattle.job.specs.declared.Job.{Job}
 use Rattle.job.specs.Record.{streamsOf, rowsOf}
+use Rattle.job.specs.Limits.{Shaped}
 
 -- 'little-endian pairs': a number in e bytes, the lowest first
 abbrev pub littleEndian : ℕ → ℕ → List ℕ
@@ -73,3 +74,19 @@ fileOf j = headerOf 1 (j .n) (j .k) (j .m) ++ boxBytes 1 j ++ streamsBytes 1 j +
 pub record InByte (z : ℤ) : Type 0 where
   pub low : negsuc 127 ≤ℤ z
   pub high : z ≤ℤ pos 127
+
+-- a vector whose entries signed bytes can hold
+pub record Held (v : Vector) : Type 0 where
+  pub x0 : InByte (v .x0)
+  pub x1 : InByte (v .x1)
+  pub x2 : InByte (v .x2)
+  pub x3 : InByte (v .x3)
+
+-- s is the file of the record j, which may still break refusals 6 to 8
+pub record Lays (j : Job) (s : List ℕ) : Type 0 where
+  pub shaped : Shaped j
+  pub low : Held (j .bounds .low)
+  pub high : Held (j .bounds .high)
+  pub streams : (Held (j .s0 .d) × Held (j .s1 .d)) × (Held (j .s2 .d) × Held (j .s3 .d))
+  pub rows : Held (j .time) × (Held (j .row0) × Held (j .row1))
+  pub file : fileOf j ≡ s

@@ -1,9 +1,10 @@
 -- Laws of the greatest common divisor: there is one, Euclid's step keeps it, and it is found entry by entry.
 use mathlib.Core.Path.{_≡_}
 use mathlib.Core.List.{List, [], _∷_}
-use Prim.Native.Nat.{ℕ, _%_, _∣_}
-use native.Mathlib.Nat.{dvd-refl, dvd-zero, dvd-antisymm, dvd-mod-iff, dvd-trans}
-use Rattle.space.specs.Divisors.{Divides, GcdOf}
+use Prim.Native.Nat.{ℕ, zero, suc, _%_, _<_, _≤_, _∣_}
+use native.Mathlib.Nat.{dvd-refl, dvd-zero, dvd-antisymm, dvd-mod-iff, dvd-trans, mod-lt, le-refl}
+use native.Mathlib.Omega.{arith}
+use Rattle.space.specs.Divisors.{Divides, GcdOf, euclid, gcdOf}
 
 pub gcd-unique : {ns : List ℕ} {g h : ℕ} → GcdOf ns g → GcdOf ns h → g ≡ h
 gcd-unique {g = g} {h} p q = dvd-antisymm (q .greatest g (p .divides)) (p .greatest h (q .divides))
@@ -31,3 +32,17 @@ gcd-more {ns} {n} {g} {h} p q =
       divides = (q .divides .0, divides-down h g ns (q .divides .1 .0) (p .divides));
       greatest = λ k r. q .greatest k (r .0, (p .greatest k (r .1), tt));
     }
+
+-- what `gcdOf` works out is the greatest common divisor
+euclid-is : (turns a b : ℕ) → b ≤ turns → GcdOf (a ∷ b ∷ []) (euclid turns a b)
+euclid-is zero a zero h = gcd-zero a
+euclid-is zero a (suc b) h = absurd (omega arith)
+euclid-is (suc turns) a zero h = gcd-zero a
+euclid-is (suc turns) a (suc b) h = gcd-turn a (suc b) _ (euclid-is turns (suc b) (a % suc b) (fewer (mod-lt a (omega arith)) h))
+  where
+    fewer : {r : ℕ} → r < suc b → suc b ≤ suc turns → r ≤ turns
+    fewer p q = omega arith
+
+pub gcd-is : (a b : ℕ) → GcdOf (a ∷ b ∷ []) (gcdOf a b)
+unfolding gcdOf
+gcd-is a b = euclid-is b a b (le-refl b)

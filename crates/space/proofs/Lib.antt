@@ -8,5 +8,6 @@ pub mod OrderLaws
 pub mod BoxLaws
 pub mod ExtremeLaws
 pub mod Digits
+pub mod PairLaws
 pub mod Padding
 pub mod Telling

@@ -120,6 +120,9 @@ not-le (negsuc a) (negsuc b) t = lt→ltb a b (nleb→lt b a t)
 pub tells-lt : (a b : ℤ) → Tells (a <ℤ b) (ltZ a b)
 tells-lt a b = record { holds = λ e. ltZ-yes (holds e); fails = λ e h. clashℤ h (ltZ-no (fails e)) }
 
+pub tells-leZ : (a b : ℤ) → Tells (a ≤ℤ b) (leZ a b)
+tells-leZ a b = record { holds = λ e. leZ-yes (holds e); fails = λ e h. clashℤ (ltZ-yes (not-le a b (fails e))) h }
+
 pub lt-true : (a b : ℤ) → ltZ a b ≡ true → up a + down b < up b + down a
 lt-true a b e = lt-parts a b (ltZ-yes (holds e))
 

@@ -2,10 +2,11 @@
 use mathlib.Core.Path.{_≡_}
 use mathlib.Core.List.{List, [], _∷_}
 use Prim.Native.Nat.{ℕ, _+_, _*_, _/_, _%_}
+use lib.ListN.{length}
 use lib.IntN.{ℤ, pos, _+ℤ_}
 use lib.Signed.{_≤ℤ_}
 use Rattle.space.specs.Numbers.{steps}
-use Rattle.space.specs.Vectors.{dotOf}
+use Rattle.space.specs.Vectors.{dotOf, plusOf}
 use Rattle.space.specs.declared.bounds.Bounds.{Bounds}
 
 -- the bounds of one dimension
@@ -30,6 +31,13 @@ In [] [] = Unit {0}
 In [] (x ∷ xs) = ⊥
 In (s ∷ ss) [] = ⊥
 In (s ∷ ss) (x ∷ xs) = (s .low ≤ℤ x) × (x ≤ℤ s .high) × In ss xs
+
+-- y leads from a point of the box to a point of the box
+pub record Apart (B : Box) (y : List ℤ) : Type 0 where
+  pub long : length y ≡ length B
+  pub from : List ℤ
+  pub here : In B from
+  pub there : In B (plusOf from y)
 
 -- l ≤ u for each
 unfoldable pub Solid : Box → Type 0

@@ -6,9 +6,10 @@ ghost use mathlib.Core.List.{List, [], _∷_, map, zipWith};
 ghost use Prim.Native.Nat.{_*_, _<_, _≤_};
 ghost use lib.IntN.{ℤ, pos};
 ghost use lib.Signed.{ltZ, _≤ℤ_};
-ghost use Rattle.space.specs.Numbers.{Size, Tells, steps, difference, limit};
+ghost use Rattle.space.specs.Numbers.{Size, Tells, steps, coordinate, difference, limit};
 ghost use Rattle.space.specs.Vectors.{entries, dotOf, plusOf, Sized};
-ghost use Rattle.space.specs.Boxes.{In, Solid, boxOf, across, countOf, placeOf, pointOf, Least, Greatest};
+ghost use Rattle.space.specs.Order.{AtMost};
+ghost use Rattle.space.specs.Boxes.{In, Apart, Solid, boxOf, across, countOf, placeOf, pointOf, Least, Greatest};
 
 // The bounds of a box, l and u of each dimension. An unused dimension is 0..0.
 pub struct Bounds {
@@ -79,6 +80,37 @@ pub fn greatest(h: Vector, b: Bounds) -> i64
     0 - least(crate::times(-1, h), b)
 }
 
+// The differences of two points of the box, themselves a box.
+pub fn differences(b: Bounds) -> Bounds
+    requires { ⌜ Sized coordinate (entries (b .low)) × Sized coordinate (entries (b .high)) ⌝ }
+    ensures sized { λ r. ⌜ Sized difference (entries (r .low)) × Sized difference (entries (r .high)) ⌝ }
+    ensures apart { λ r. ⌜ ((y : List ℤ) → In (boxOf r) y → Apart (boxOf b) y) ⌝ }
+    ensures all { λ r. ⌜ ((y : List ℤ) → Apart (boxOf b) y → In (boxOf r) y) ⌝ }
+{
+    let l = b.low;
+    let u = b.high;
+    Bounds {
+        low: crate::minus(l, u),
+        high: crate::minus(u, l),
+    }
+}
+
+// The least point p with p and p + y in the box: the low corner of the points that both have.
+pub fn start(b: Bounds, y: Vector) -> Vector
+    requires { ⌜ Sized coordinate (entries (b .low)) × Sized coordinate (entries (b .high)) × Sized difference (entries y) × Apart (boxOf b) (entries y) ⌝ }
+    ensures here { λ r. ⌜ In (boxOf b) (entries r) × In (boxOf b) (plusOf (entries r) (entries y)) ⌝ }
+    ensures least { λ r. ⌜ ((p : List ℤ) → In (boxOf b) p → In (boxOf b) (plusOf p (entries y)) → AtMost (entries r) p) ⌝ }
+{
+    let l = b.low;
+    let s = crate::minus(l, y);
+    Vector {
+        x0: greater(l.x0, s.x0),
+        x1: greater(l.x1, s.x1),
+        x2: greater(l.x2, s.x2),
+        x3: greater(l.x3, s.x3),
+    }
+}
+
 // Does x lie from l to u?
 fn within(l: i64, x: i64, u: i64) -> bool
     ensures { λ r. ⌜ Tells ((l ≤ℤ x) × (x ≤ℤ u)) r ⌝ }
@@ -142,6 +174,13 @@ fn offset(k: u64, n: Counts) -> Vector
         x2: (k2 / n.n3) as i64,
         x3: (k2 % n.n3) as i64,
     }
+}
+
+// The greater of two numbers.
+fn greater(a: i64, b: i64) -> i64
+    ensures { λ r. ⌜ r ≡ cond (ltZ a b) b a ⌝ }
+{
+    if a < b { b } else { a }
 }
 
 // a, or b where h is negative.

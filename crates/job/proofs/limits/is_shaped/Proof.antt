@@ -22,8 +22,14 @@ returns : tie.Need-returns
 returns c =
     tells-as
     (λ h. record {
-      dimensions = h .0 .0; places = h .0 .1 .0; streams = h .0 .1 .1; box = h .1 .0;
-      vectors = h .1 .1 .0 .0; idle = h .1 .1 .0 .1; rows = h .1 .1 .1 .0; idle-rows = h .1 .1 .1 .1;
+      dimensions = h .0 .0;
+      places = h .0 .1 .0;
+      streams = h .0 .1 .1;
+      box = h .1 .0;
+      vectors = h .1 .1 .0 .0;
+      idle = h .1 .1 .0 .1;
+      rows = h .1 .1 .1 .0;
+      idle-rows = h .1 .1 .1 .1;
     })
     (λ h. ((h .dimensions, (h .places, h .streams)), (h .box, ((h .vectors, h .idle), (h .rows, h .idle-rows)))))
     (tells-and _ _ (c .before .before .before .before .are-counts .ensures)

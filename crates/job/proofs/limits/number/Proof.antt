@@ -22,23 +22,33 @@ are-sound-requires c κs = search needs
 
 returns-3 : tie.Need-returns-3
 returns-3 c =
-    inl (granted _ (c .before .before .before .before .before .before .is-shaped .ensures) (c .before .before .before .before .before .if1 .left),
-    inl (granted _ (c .before .before .before .is-boxed .ensures) (c .before .before .if2 .left), inr (denied _ (c .before .are-sound .ensures) (c .if3 .taken), refl)))
+    inl (
+      granted _ (c .before .before .before .before .before .before .is-shaped .ensures) (c .before .before .before .before .before .if1 .left),
+      inl (granted _ (c .before .before .before .is-boxed .ensures) (c .before .before .if2 .left), inr (denied _ (c .before .are-sound .ensures) (c .if3 .taken), refl)),
+    )
 
 is-rowed-requires : tie.Need-is-rowed-requires
 is-rowed-requires c κs = search needs
 
 returns-4 : tie.Need-returns-4
 returns-4 c =
-    inl (granted _ (c .before .before .before .before .before .before .before .before .is-shaped .ensures) (c .before .before .before .before .before .before .before .if1 .left),
-    inl (granted _ (c .before .before .before .before .before .is-boxed .ensures) (c .before .before .before .before .if2 .left),
-    inl (granted _ (c .before .before .before .are-sound .ensures) (c .before .before .if3 .left), inr (denied _ (c .before .is-rowed .ensures) (c .if4 .taken), refl))))
+    inl (
+      granted _ (c .before .before .before .before .before .before .before .before .is-shaped .ensures) (c .before .before .before .before .before .before .before .if1 .left),
+      inl (
+        granted _ (c .before .before .before .before .before .is-boxed .ensures) (c .before .before .before .before .if2 .left),
+        inl (granted _ (c .before .before .before .are-sound .ensures) (c .before .before .if3 .left), inr (denied _ (c .before .is-rowed .ensures) (c .if4 .taken), refl)),
+      ),
+    )
 
 returns-5 : tie.Need-returns-5
 returns-5 c =
-    inl (granted _ (c .before .before .before .before .before .before .before .before .is-shaped .ensures) (c .before .before .before .before .before .before .before .if1 .left),
-    inl (granted _ (c .before .before .before .before .before .is-boxed .ensures) (c .before .before .before .before .if2 .left),
-    inl (granted _ (c .before .before .before .are-sound .ensures) (c .before .before .if3 .left), inl (granted _ (c .before .is-rowed .ensures) (c .if4 .left), refl))))
+    inl (
+      granted _ (c .before .before .before .before .before .before .before .before .is-shaped .ensures) (c .before .before .before .before .before .before .before .if1 .left),
+      inl (
+        granted _ (c .before .before .before .before .before .is-boxed .ensures) (c .before .before .before .before .if2 .left),
+        inl (granted _ (c .before .before .before .are-sound .ensures) (c .before .before .if3 .left), inl (granted _ (c .before .is-rowed .ensures) (c .if4 .left), refl)),
+      ),
+    )
 
 pub number-spec : {M : Type 1} → statement M
 number-spec = tie.close (tie.spec is-shaped-requires returns is-boxed-requires returns-2 are-sound-requires returns-3 is-rowed-requires returns-4 returns-5)

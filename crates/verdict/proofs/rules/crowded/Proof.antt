@@ -1,0 +1,62 @@
+-- The first difference, from the least point that it leads from.
+use mathlib.Core.Path.{_≡_, sym, subst}
+use mathlib.Core.List.{List}
+use native.Mathlib.Omega.{arith}
+use lib.IntN.{ℤ}
+use borrow.Author.Needs.{needs}
+use Rattle.space.specs.Numbers.{coordinate, difference}
+use Rattle.space.specs.Vectors.{entries, plusOf, Sized}
+use Rattle.space.specs.Boxes.{boxOf}
+use Rattle.space.proofs.VectorLaws.{sized-up}
+use Rattle.space.proofs.BoxLaws.{in-sized, sides-sized}
+use Rattle.space.proofs.PairLaws.{apart-sized}
+use Rattle.verdict.specs.Mapping.{box}
+use Rattle.verdict.specs.Rules.{SameCell}
+use Rattle.verdict.specs.Replies.{FirstPair}
+use Rattle.verdict.specs.Searches.{Still, Finds-gap}
+use Rattle.verdict.proofs.Fits.{low-sized, high-sized}
+use Rattle.verdict.proofs.FirstPairs.{cell-by-gap, no-pair, first-pair}
+use Rattle.verdict.proofs.rules.crowded.Statement.{statement}
+use Rattle.verdict.proofs.rules.crowded.Tie as tie
+
+cell-gap-requires : tie.Need-cell-gap-requires
+cell-gap-requires c κs = search needs
+
+enum-known-gap : tie.Need-enum-known-gap
+enum-known-gap c = search needs
+
+enum-told : tie.Need-enum-told
+enum-told c = search needs
+
+returns : tie.Need-returns
+returns c =
+    let j = c .before .before .before .args .j in
+    no-pair (cell-by-gap j) (subst (Finds-gap (Still j) (box j)) (c .enum-told .given .1) (c .before .before .cell-gap .ensures))
+
+start-requires : tie.Need-start-requires
+start-requires c κs =
+    let j = c .before .before .before .before .args .j in
+    let a = c .before .before .before .before .pre in
+    let found = subst (Finds-gap (Still j) (box j)) (c .before .gap .given .1) (c .before .before .before .cell-gap .ensures) in
+    (low-sized j a, high-sized j a, apart-sized (j .bounds) _ (low-sized j a) (high-sized j a) (found .1), found .1)
+
+-- the points are as small as the box, and the difference is twice that
+plus-requires : tie.Need-plus-requires
+plus-requires c κs =
+    let j = c .before .before .before .before .before .args .j in
+    let a = c .before .before .before .before .before .pre in
+    let found = subst (Finds-gap (Still j) (box j)) (c .before .before .gap .given .1) (c .before .before .before .before .cell-gap .ensures) in (
+      sized-up (omega arith) (in-sized coordinate (box j) _ (sides-sized (j .bounds) (low-sized j a) (high-sized j a)) (c .start .ensures .0 .0)),
+      sized-up (omega arith) (apart-sized (j .bounds) _ (low-sized j a) (high-sized j a) (found .1)),
+    )
+
+returns-2 : tie.Need-returns-2
+returns-2 c =
+    let j = c .before .before .before .before .before .before .args .j in
+    let found = subst (Finds-gap (Still j) (box j)) (c .before .before .before .gap .given .1) (c .before .before .before .before .before .cell-gap .ensures) in
+    let at = c .before .start .ensures in
+    subst (FirstPair (SameCell j) (entries (c .before .start .result))) (sym (c .plus .ensures))
+    (first-pair (cell-by-gap j) _ _ (found .0) (found .1) (found .2) (found .3) (at .0 .0) (at .0 .1) (at .1))
+
+pub crowded-spec : {M : Type 1} → statement M
+crowded-spec = tie.close (tie.spec cell-gap-requires enum-known-gap enum-told returns start-requires plus-requires returns-2)

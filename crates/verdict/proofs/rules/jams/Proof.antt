@@ -1,0 +1,60 @@
+-- No tokens of a stream before s meet.
+use mathlib.Core.Path.{_≡_, refl, sym, subst}
+use mathlib.Core.List.{List}
+use Prim.Native.Nat.{ℕ, _+_, _-_, _<_, _≤_}
+use native.Mathlib.Omega.{arith}
+use lib.IntN.{ℤ}
+use borrow.Author.Count.{below-more}
+use borrow.Author.Needs.{needs}
+use Rattle.space.specs.Vectors.{entries}
+use Rattle.job.specs.declared.Job.{Job}
+use Rattle.verdict.specs.Rules.{Meeting}
+use Rattle.verdict.specs.Searches.{Finds-jam, Finds-jams}
+use Rattle.verdict.specs.declared.Clash.{Clash}
+use Rattle.verdict.specs.declared.rules.Jam.the-variants as Jam
+use Rattle.verdict.proofs.rules.jams.Statement.{statement}
+use Rattle.verdict.proofs.rules.jams.Tie as tie
+
+abbrev Inv-loop : tie.InvT-loop
+Inv-loop j m s₀ s = (s ≤ m) × ((t : ℕ) → t < s → (p q : List ℤ) (f : ℤ) → Meeting j t p q f → ⊥)
+
+abbrev μ-loop : tie.MeasureT-loop
+μ-loop j m s₀ s = m - s
+
+loop-holds : tie.Need-loop-holds Inv-loop μ-loop
+loop-holds c = (omega arith, λ t h. absurd (omega arith))
+
+jam-of-requires : tie.Need-jam-of-requires Inv-loop μ-loop
+jam-of-requires c κs = (c .before .before .pre, omega arith)
+
+enum-known-found : tie.Need-enum-known-found Inv-loop μ-loop
+enum-known-found c = search needs
+
+-- the first stream with a clash
+lowest : (j : Job) (s : ℕ) (clash : Clash) → s < j .m → ((t : ℕ) → t < s → (p q : List ℤ) (f : ℤ) → Meeting j t p q f → ⊥) → Finds-jam j s (Jam.At clash) → Finds-jams j (Jam.At clash)
+lowest j s clash h k w =
+    (record { below = rw (w .0) h; broken = λ n. n (entries (clash .pair .p)) (entries (clash .pair .q)) (clash .hops) (w .1 .1); kept = λ t l. k t (rw (w .0) at l) }, w .1)
+
+returns : tie.Need-returns Inv-loop μ-loop
+returns c =
+    lowest (c .before .before .before .before .before .before .args .j) (c .before .before .before .before .before .loop .s) _ (omega arith) (c .before .before .before .before .before .loop .inv .1)
+    (subst (Finds-jam (c .before .before .before .before .before .before .args .j) (c .before .before .before .before .before .loop .s)) (c .before .found .given .1) (c .before .before .before .jam-of .ensures))
+
+enum-told : tie.Need-enum-told Inv-loop μ-loop
+enum-told c = search needs
+
+add-s : tie.Need-add-s Inv-loop μ-loop
+add-s c = omega arith
+
+loop-less : tie.Need-loop-less Inv-loop μ-loop
+loop-less c = omega arith
+
+loop-again : tie.Need-loop-again Inv-loop μ-loop
+loop-again c =
+    (omega arith, below-more _ _ (c .before .before .before .before .loop .inv .1) (subst (Finds-jam (c .before .before .before .before .before .args .j) (c .before .before .before .before .loop .s)) (c .enum-told .given .1) (c .before .before .jam-of .ensures)))
+
+returns-2 : tie.Need-returns-2 Inv-loop μ-loop
+returns-2 c = λ t h. c .before .loop .inv .1 t (omega arith)
+
+pub jams-spec : {M : Type 1} → statement M
+jams-spec = tie.close (tie.spec Inv-loop μ-loop loop-holds jam-of-requires enum-known-found returns enum-told add-s loop-less loop-again returns-2)

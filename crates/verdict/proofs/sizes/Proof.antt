@@ -1,0 +1,56 @@
+-- Each span is at most 129,033 and the sum of the w at most 30,480.
+use mathlib.Core.Path.{refl, ap}
+use mathlib.Core.List.{List}
+use Prim.Native.Nat.{_*_, _≤_}
+use native.Mathlib.Nat.{mul-le-mul}
+use borrow.Author.Needs.{needs}
+use lib.IntN.{ℤ}
+use Rattle.space.specs.Vectors.{entries, Sized}
+use Rattle.space.specs.Boxes.{Solid, boxOf}
+use Rattle.space.proofs.Machine.{fits-under}
+use Rattle.job.specs.declared.Job.{Job}
+use Rattle.job.specs.Limits.{Acceptable}
+use Rattle.verdict.proofs.Fits.{time-sized, row0-sized, row1-sized}
+use Rattle.verdict.proofs.sizes.Statement.{statement}
+use Rattle.verdict.proofs.sizes.Tie as tie
+
+-- what a span asks of a row of an acceptable job
+asked : {j : Job} {h : List ℤ} → Acceptable j → Sized 127 h → Sized 127 h × Sized 127 (entries (j .bounds .low)) × Sized 127 (entries (j .bounds .high)) × Solid (boxOf (j .bounds))
+asked a p = (p, a .boxed .low, a .boxed .high, a .boxed .solid)
+
+span-requires : tie.Need-span-requires
+span-requires c κs = let s = c .before .before .before .before in asked (s .pre .0) (row0-sized (s .args .j) (s .pre .0))
+
+span-requires-2 : tie.Need-span-requires-2
+span-requires-2 c κs = let s = c .before .before .before .before .before in asked (s .pre .0) (row1-sized (s .args .j) (s .pre .0))
+
+-- cells are few
+cells-few : (c : tie.After-span2) → c .before .span .result * c .span2 .result ≤ 129033 * 129033
+cells-few c = mul-le-mul (c .before .span .ensures .0) (c .span2 .ensures .0)
+
+mul-cells : tie.Need-mul-cells
+mul-cells c = fits-under (cells-few c) tt
+
+span-requires-3 : tie.Need-span-requires-3
+span-requires-3 c κs = let s = c .before .before .before .before .before .before in asked (s .pre .0) (time-sized (s .args .j) (s .pre .0))
+
+all-delays-requires : tie.Need-all-delays-requires
+all-delays-requires c κs = search needs
+
+mul-room : tie.Need-mul-room
+mul-room c = fits-under (mul-le-mul (cells-few (c .before .before)) (c .all-delays .ensures .0)) tt
+
+returns : tie.Need-returns
+returns c =
+    record {
+      rows = c .before .before .before .span .result;
+      columns = c .before .before .span2 .result;
+      first = c .before .before .before .span .ensures .1;
+      second = c .before .before .span2 .ensures .1;
+      cells = refl;
+      ticks = c .before .span3 .ensures .1;
+      room = ap (λ n. c .before .before .before .span .result * c .before .before .span2 .result * n) (c .all-delays .ensures .1);
+    }
+
+pub sizes-spec : {M : Type 1} → statement M
+sizes-spec = tie.close (tie.spec span-requires span-requires-2 mul-cells span-requires-3 all-delays-requires mul-room returns)

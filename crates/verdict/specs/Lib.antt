@@ -1,0 +1,4 @@
+pub mod Mapping
+pub mod Rules
+pub mod Replies
+pub mod Searches

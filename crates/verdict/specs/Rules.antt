@@ -1,0 +1,83 @@
+-- 'Meaning of the verdict': precedence, hop, cell and link.
+use mathlib.Core.Path.{_≡_}
+use mathlib.Core.Logic.{_⊎_}
+use mathlib.Core.List.{List}
+use Prim.Native.Nat.{ℕ, zero, suc, _+_, _*_, _<_, _≤_, _∣_}
+use lib.IntN.{ℤ, pos, natAbs, _+ℤ_, _-ℤ_, _*ℤ_}
+use lib.Signed.{_≤ℤ_}
+use Rattle.space.specs.Vectors.{entries, minusOf, timesOf}
+use Rattle.space.specs.Order.{Before}
+use Rattle.space.specs.Boxes.{Box, In, Least, Greatest}
+use Rattle.job.specs.declared.Job.{Job}
+use Rattle.job.specs.declared.Stream.{Stream}
+use Rattle.job.specs.Limits.{Acceptable}
+use Rattle.verdict.specs.Mapping.{box, stream, along, H, S, g, Stationary, hop, delay, delays}
+use Rattle.verdict.specs.declared.Size.{Size}
+
+-- 'Precedence: Hd ≥ 1 for every stream'
+abbrev pub Ahead : Job → ℕ → Type 0
+Ahead j s = pos 1 ≤ℤ H j (along j s)
+
+-- 'Hop: if Sd is not 0, g divides Hd'
+abbrev pub Even : Job → ℕ → Type 0
+Even j s = (Stationary j s → ⊥) → g j s ∣ natAbs (H j (along j s))
+
+-- points p, q of the box, p before q in box order
+pub record Pair (B : Box) (p q : List ℤ) : Type 0 where
+  pub first : In B p
+  pub second : In B q
+  pub order : Before p q
+
+-- 'Cell: no two different box points have equal H and equal S'
+pub record SameCell (j : Job) (p q : List ℤ) : Type 0 where
+  pub pair : Pair (box j) p q
+  pub time : H j p ≡ H j q
+  pub place : S j p ≡ S j q
+
+-- the points that send a token along the stream: 'every box point is taken to send its value'
+abbrev pub senders : Job → ℕ → Box
+senders j s = box j
+
+-- 'Through: a collision unless y is a whole multiple of d. Local: a collision if 1 ≤ |f| ≤ g - 1'
+abbrev pub Collide : ℕ → List ℤ → ℕ → List ℤ → ℤ → Type 0
+Collide zero d g y f = (z : ℤ) → y ≡ timesOf z d → ⊥
+Collide (suc kind) d g y f = (1 ≤ natAbs f) × (natAbs f < g)
+
+-- 'Link, only where Sd is not 0. Take points p, q, p before q in box order, y = q - p, and suppose a whole number f has Sy = f·e and Hy = f·w'
+pub record Meeting (j : Job) (s : ℕ) (p q : List ℤ) (f : ℤ) : Type 0 where
+  pub moving : Stationary j s → ⊥
+  pub pair : Pair (senders j s) p q
+  pub place : S j (minusOf q p) ≡ timesOf f (hop j s)
+  pub time : H j (minusOf q p) ≡ f *ℤ delay j s
+  pub collide : Collide (stream j s .kind) (along j s) (g j s) (minusOf q p) f
+
+-- 'First broken rule: precedence over all streams, then hop over all streams, then cell, then link over all streams': the rules in their order, after the limits
+abbrev pub Kept : Job → ℕ → Type 0
+Kept j zero = Acceptable j
+Kept j (suc zero) = (s : ℕ) → s < j .m → Ahead j s
+Kept j (suc (suc zero)) = (s : ℕ) → s < j .m → Even j s
+Kept j (suc (suc (suc zero))) = (p q : List ℤ) → SameCell j p q → ⊥
+Kept j (suc (suc (suc (suc more)))) = (s : ℕ) → s < j .m → (p q : List ℤ) (f : ℤ) → Meeting j s p q f → ⊥
+
+-- the first n of them
+abbrev pub Keeps : Job → ℕ → Type 0
+Keeps j zero = Unit {0}
+Keeps j (suc n) = Keeps j n × Kept j n
+
+-- 'from least to greatest' over the box, a row's products are n numbers
+pub record Span (h : List ℤ) (B : Box) (n : ℕ) : Type 0 where
+  pub low : ℤ
+  pub high : ℤ
+  pub least : Least h B low
+  pub greatest : Greatest h B high
+  pub numbers : pos n ≡ high -ℤ low +ℤ pos 1
+
+-- 'Cells are the whole rectangle from least to greatest Sx; ticks run from 0 to greatest Hx - least Hx; room R = cells × sum of the w'
+pub record Sizes (j : Job) (z : Size) : Type 0 where
+  pub rows : ℕ
+  pub columns : ℕ
+  pub first : Span (entries (j .row0)) (box j) rows
+  pub second : Span (entries (j .row1)) (box j) columns
+  pub cells : z .cells ≡ rows * columns
+  pub ticks : Span (entries (j .time)) (box j) (z .ticks)
+  pub room : z .room ≡ z .cells * delays j (j .m)

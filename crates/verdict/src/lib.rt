@@ -1,0 +1,120 @@
+// The verdict on a job: accepted with its sizes, or the first broken rule with its stream and its first pair.
+pub mod rules;
+pub mod walk;
+
+use crate::rules::Broken;
+use crate::rules::Crowd;
+use crate::rules::Jam;
+use job::Job;
+use space::Vector;
+use space::bounds::Bounds;
+ghost use mathlib.Core.Path.{_≡_};
+ghost use Prim.Native.Nat.{ℕ, _<_, _≤_};
+ghost use lib.IntN.{ℤ};
+ghost use Rattle.space.specs.Numbers.{up};
+ghost use Rattle.space.specs.Vectors.{entries, Sized};
+ghost use Rattle.space.specs.Boxes.{Solid, boxOf};
+ghost use Rattle.job.specs.Limits.{Acceptable};
+ghost use Rattle.verdict.specs.Mapping.{delay, delays};
+ghost use Rattle.verdict.specs.Rules.{Ahead, Span, Sizes};
+ghost use Rattle.verdict.specs.Replies.{Says};
+
+// How many cells and ticks an accepted array has, and how many register places.
+pub struct Size {
+    pub cells: u64,
+    pub ticks: u64,
+    pub room: u64,
+}
+
+// Two points.
+pub struct Pair {
+    pub p: Vector,
+    pub q: Vector,
+}
+
+// Two tokens of a stream that meet: their points, and how many hops they are apart.
+pub struct Clash {
+    pub stream: u8,
+    pub pair: Pair,
+    pub hops: i64,
+}
+
+pub enum Verdict {
+    Accepted(Size),
+    Limit(u8),
+    Precedence(u8),
+    Hop(u8),
+    Cell(Pair),
+    Link(Clash),
+}
+
+// The verdict on a record.
+pub fn verdict_of(j: Job) -> Verdict
+    ensures { λ r. ⌜ Says j r ⌝ }
+{
+    let number = job::limits::number(j);
+    if number != 0 {
+        return Verdict::Limit(number);
+    }
+    let late = crate::rules::late(j);
+    if let Broken::At(s) = late {
+        return Verdict::Precedence(s);
+    }
+    let uneven = crate::rules::uneven(j);
+    if let Broken::At(s) = uneven {
+        return Verdict::Hop(s);
+    }
+    let crowded = crate::rules::crowded(j);
+    if let Crowd::At(c) = crowded {
+        return Verdict::Cell(c);
+    }
+    let jam = crate::rules::jams(j);
+    if let Jam::At(c) = jam {
+        return Verdict::Link(c);
+    }
+    Verdict::Accepted(sizes(j))
+}
+
+// How many numbers there are from the least to the greatest product of a row.
+fn span(h: Vector, b: Bounds) -> u64
+    requires { ⌜ Sized 127 (entries h) × Sized 127 (entries (b .low)) × Sized 127 (entries (b .high)) × Solid (boxOf b) ⌝ }
+    ensures few { λ r. ⌜ r ≤ 129033 ⌝ }
+    ensures is { λ r. ⌜ Span (entries h) (boxOf b) r ⌝ }
+{
+    let least = space::bounds::least(h, b);
+    let greatest = space::bounds::greatest(h, b);
+    (greatest - least) as u64 + 1
+}
+
+// The sum of the w.
+fn all_delays(j: Job) -> u64
+    requires { ⌜ Acceptable j × ((s : ℕ) → s < j .m → Ahead j s) ⌝ }
+    ensures few { λ r. ⌜ r ≤ 30480 ⌝ }
+    ensures are { λ r. ⌜ r ≡ delays j (j .m) ⌝ }
+{
+    let m = j.m;
+    let mut s: u8 = 0;
+    let mut sum: u64 = 0;
+    while s < m {
+        let c = crate::walk::course_of(j, s);
+        let unit = c.unit;
+        sum += space::divisor::size(unit.x0);
+        s += 1;
+    }
+    sum
+}
+
+// Cells, ticks and room of a job that keeps precedence.
+fn sizes(j: Job) -> Size
+    requires { ⌜ Acceptable j × ((s : ℕ) → s < j .m → Ahead j s) ⌝ }
+    ensures { λ r. ⌜ Sizes j r ⌝ }
+{
+    let b = j.bounds;
+    let h = j.time;
+    let row0 = j.row0;
+    let row1 = j.row1;
+    let cells = span(row0, b) * span(row1, b);
+    let ticks = span(h, b);
+    let room = cells * all_delays(j);
+    Size { cells, ticks, room }
+}

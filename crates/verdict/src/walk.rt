@@ -1,0 +1,179 @@
+// The walk over the differences of the box: which of them bring two points into one cell, or two tokens together.
+use job::Job;
+use space::Vector;
+use space::bounds::Bounds;
+use space::multiple::Multiple;
+ghost use mathlib.Core.Path.{_≡_};
+ghost use mathlib.Core.List.{List};
+ghost use Prim.Native.Nat.{_+_, _<_};
+ghost use lib.IntN.{ℤ};
+ghost use Rattle.space.specs.Numbers.{Tells, difference, limit};
+ghost use Rattle.space.specs.Vectors.{entries, Sized};
+ghost use Rattle.space.specs.Multiples.{NonZero};
+ghost use Rattle.space.specs.Boxes.{In, boxOf, placeOf};
+ghost use Rattle.job.specs.Record.{zeroVector};
+ghost use Rattle.job.specs.Limits.{Acceptable};
+ghost use Rattle.verdict.specs.Mapping.{box, Stationary, orOne};
+ghost use Rattle.verdict.specs.Rules.{Collide, senders};
+ghost use Rattle.verdict.specs.Searches.{placed as placedOf, Runs, Still, MetAt, Meets, Finds-gap};
+
+// One hop of a stream, as (w, e), and how many hops make d.
+pub struct Course {
+    pub unit: Vector,
+    pub g: u64,
+}
+
+// Whether two tokens meet, and how many hops apart.
+pub enum Met {
+    Hops(i64),
+    Apart,
+}
+
+// A difference of two points, where one was found.
+pub enum Gap {
+    At(Vector),
+    Nowhere,
+}
+
+// Hx and Sx, as one vector.
+pub fn placed(j: Job, x: Vector) -> Vector
+    requires { ⌜ Acceptable j × Sized difference (entries x) ⌝ }
+    ensures { λ r. ⌜ entries r ≡ placedOf j (entries x) ⌝ }
+{
+    let h = j.time;
+    let row0 = j.row0;
+    let row1 = j.row1;
+    Vector {
+        x0: space::dot(h, x),
+        x1: space::dot(row0, x),
+        x2: space::dot(row1, x),
+        x3: 0,
+    }
+}
+
+// g, or 1 where it is 0.
+fn or_one(g: u64) -> u64
+    ensures { λ r. ⌜ r ≡ orOne g ⌝ }
+{
+    if g == 0 { 1 } else { g }
+}
+
+// The course of stream s.
+pub fn course_of(j: Job, s: u8) -> Course
+    requires { ⌜ Acceptable j × (s < j .m) ⌝ }
+    ensures { λ r. ⌜ Runs j s r ⌝ }
+{
+    let t = job::stream_at(j, s);
+    let d = t.d;
+    let v = placed(j, d);
+    let g = space::divisor::gcd(space::divisor::size(v.x1), space::divisor::size(v.x2));
+    let n = or_one(g) as i64;
+    Course {
+        unit: Vector {
+            x0: v.x0 / n,
+            x1: v.x1 / n,
+            x2: v.x2 / n,
+            x3: 0,
+        },
+        g,
+    }
+}
+
+// Do two points y apart share cell and tick?
+pub fn is_still(j: Job, y: Vector) -> bool
+    requires { ⌜ Acceptable j × Sized difference (entries y) ⌝ }
+    ensures { λ r. ⌜ Tells (Still j (entries y)) r ⌝ }
+{
+    let v = placed(j, y);
+    (v.x0 == 0) & ((v.x1 == 0) & (v.x2 == 0))
+}
+
+// Two tokens of stream s whose points are y apart: do they meet, and how many hops apart?
+pub fn meeting(j: Job, s: u8, c: Course, y: Vector) -> Met
+    requires { ⌜ Acceptable j × (s < j .m) × (Stationary j s → ⊥) × Runs j s c × Sized difference (entries y) ⌝ }
+    ensures { λ r. ⌜ MetAt j s (entries y) r ⌝ }
+{
+    let unit = c.unit;
+    let Multiple::Times(f) = space::multiple::multiple_of(placed(j, y), unit) else {
+        return Met::Apart;
+    };
+    let t = job::stream_at(j, s);
+    if is_collision(t.kind, t.d, c.g, y, f) {
+        Met::Hops(f)
+    } else {
+        Met::Apart
+    }
+}
+
+// Do two tokens y apart, f hops, collide?
+fn is_collision(kind: u8, d: Vector, g: u64, y: Vector, f: i64) -> bool
+    requires { ⌜ Sized limit (entries y) × Sized limit (entries d) × NonZero (entries d) ⌝ }
+    ensures { λ r. ⌜ Tells (Collide kind (entries d) g (entries y) f) r ⌝ }
+{
+    if kind == 0 {
+        let m = space::multiple::multiple_of(y, d);
+        return is_none(m);
+    }
+    let size = space::divisor::size(f);
+    (1 <= size) & (size < g)
+}
+
+// Is it no multiple?
+fn is_none(m: Multiple) -> bool
+    ensures { λ r. ⌜ Tells (m ≡ Multiple.No) r ⌝ }
+{
+    match m {
+        Multiple::Times(_z) => false,
+        Multiple::No => true,
+    }
+}
+
+// The place of the first difference that points forward, among the differences b: just past 0.
+fn first_place(b: Bounds) -> u64
+    requires { ⌜ Sized difference (entries (b .low)) × Sized difference (entries (b .high)) × In (boxOf b) (entries zeroVector) ⌝ }
+    ensures { λ r. ⌜ r ≡ placeOf (boxOf b) (entries zeroVector) + 1 ⌝ }
+{
+    let zero = Vector {
+        x0: 0,
+        x1: 0,
+        x2: 0,
+        x3: 0,
+    };
+    space::bounds::place(b, zero) + 1
+}
+
+// The first difference at which two points of the box share cell and tick.
+pub fn cell_gap(j: Job) -> Gap
+    requires { ⌜ Acceptable j ⌝ }
+    ensures { λ r. ⌜ Finds-gap (Still j) (box j) r ⌝ }
+{
+    let b = space::bounds::differences(j.bounds);
+    let n = space::bounds::count(b);
+    let mut i = first_place(b);
+    while i < n {
+        let y = space::bounds::point(b, i);
+        if is_still(j, y) {
+            return Gap::At(y);
+        }
+        i += 1;
+    }
+    Gap::Nowhere
+}
+
+// The first difference at which two tokens of the stream meet.
+pub fn link_gap(j: Job, s: u8, c: Course) -> Gap
+    requires { ⌜ Acceptable j × (s < j .m) × (Stationary j s → ⊥) × Runs j s c ⌝ }
+    ensures { λ r. ⌜ Finds-gap (λ (y : List ℤ). (f : ℤ) × Meets j s y f) (senders j s) r ⌝ }
+{
+    let b = space::bounds::differences(j.bounds);
+    let n = space::bounds::count(b);
+    let mut i = first_place(b);
+    while i < n {
+        let y = space::bounds::point(b, i);
+        if let Met::Hops(_f) = meeting(j, s, c, y) {
+            return Gap::At(y);
+        }
+        i += 1;
+    }
+    Gap::Nowhere
+}
