@@ -5,3 +5,8 @@ pub mod FirstPairs
 pub mod Gaps
 pub mod Meetings
 pub mod SizeLaws
+pub mod Decisions
+pub mod LimitDecisions
+pub mod Answer
+pub mod Table
+pub mod UniqueBytes

@@ -2,3 +2,4 @@ pub mod Mapping
 pub mod Rules
 pub mod Replies
 pub mod Searches
+pub mod Bytes

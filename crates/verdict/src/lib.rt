@@ -1,4 +1,5 @@
 // The verdict on a job: accepted with its sizes, or the first broken rule with its stream and its first pair.
+pub mod bytes;
 pub mod rules;
 pub mod walk;
 

@@ -1,0 +1,5 @@
+pub mod Places
+pub mod Piecing
+pub mod Laying
+pub mod Replying
+pub mod Theorems

@@ -1,0 +1,28 @@
+// The reader: job bytes to the job or the number of refusal, 1 to 8.
+mod body;
+mod head;
+
+use job::Job;
+ghost use Rattle.reader.specs.Reading.{Reads};
+
+// What reading answers.
+pub enum Reply {
+    Job(Job),
+    Refused(u8),
+}
+
+// The job whose file the bytes are, or the number of the first check that they do not pass.
+pub fn read(s: &[u8]) -> Reply
+    ensures { λ r. ⌜ Reads (now (s .entry)) r ⌝ }
+{
+    let head = head::number(s);
+    if head != 0 {
+        return Reply::Refused(head);
+    }
+    let j = body::job_of(s);
+    let number = job::limits::number(j);
+    if number != 0 {
+        return Reply::Refused(number);
+    }
+    Reply::Job(j)
+}

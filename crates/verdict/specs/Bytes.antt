@@ -1,0 +1,30 @@
+-- The verdict on job bytes ('1 to 8 first'), and the room count: 'R, or the refusals 1 to 12'.
+use mathlib.Core.Path.{_≡_}
+use mathlib.Core.Logic.{_⊎_}
+use mathlib.Core.List.{List}
+use Prim.Native.Nat.{ℕ}
+use Rattle.job.specs.declared.Job.{Job}
+use Rattle.reader.specs.Reading.{Reads}
+use Rattle.reader.specs.declared.Reply.the-variants as Reply
+use Rattle.verdict.specs.Replies.{Says}
+use Rattle.verdict.specs.declared.Verdict.{Verdict}
+use Rattle.verdict.specs.declared.Verdict.the-variants.{Accepted, Limit, Precedence, Hop, Cell, Link}
+use Rattle.verdict.specs.declared.bytes.Room.{Room}
+use Rattle.verdict.specs.declared.bytes.Room.the-variants.{Places, Refused}
+
+-- v is the verdict on the bytes: the reader's refusal, or the verdict on the job that they are
+abbrev pub SaysOf : List ℕ → Verdict → Type 0
+SaysOf s v = ((r : ℕ) × Reads s (Reply.Refused r) × (v ≡ Limit r)) ⊎ ((j : Job) × Reads s (Reply.Job j) × Says j v)
+
+-- the room of a verdict
+abbrev pub roomOf : Verdict → Room
+roomOf (Accepted z) = Places (z .room)
+roomOf (Limit r) = Refused (Limit r)
+roomOf (Precedence s) = Refused (Precedence s)
+roomOf (Hop s) = Refused (Hop s)
+roomOf (Cell c) = Refused (Cell c)
+roomOf (Link c) = Refused (Link c)
+
+-- r is the room count of what the verdict is said of
+abbrev pub Counts : (Verdict → Type 0) → Room → Type 0
+Counts Is r = (v : Verdict) × Is v × (r ≡ roomOf v)

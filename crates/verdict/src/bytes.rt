@@ -1,0 +1,52 @@
+// The verdict on job bytes, and the room count of a record and of bytes.
+use crate::Verdict;
+use job::Job;
+use reader::Reply;
+ghost use mathlib.Core.Path.{_≡_};
+ghost use Rattle.verdict.specs.Replies.{Says};
+ghost use Rattle.verdict.specs.Bytes.{SaysOf, Counts, roomOf};
+
+// How many register places an accepted array has, or the refusal.
+pub enum Room {
+    Places(u64),
+    Refused(Verdict),
+}
+
+// The verdict on job bytes.
+pub fn verdict_of_bytes(s: &[u8]) -> Verdict
+    ensures { λ r. ⌜ SaysOf (now (s .entry)) r ⌝ }
+{
+    let read = reader::read(s);
+    match read {
+        Reply::Refused(number) => Verdict::Limit(number),
+        Reply::Job(j) => crate::verdict_of(j),
+    }
+}
+
+// The room count of a record.
+pub fn room_of(j: Job) -> Room
+    ensures { λ r. ⌜ Counts (Says j) r ⌝ }
+{
+    room_in(crate::verdict_of(j))
+}
+
+// The room count of job bytes.
+pub fn room_of_bytes(s: &[u8]) -> Room
+    ensures { λ r. ⌜ Counts (SaysOf (now (s .entry))) r ⌝ }
+{
+    room_in(verdict_of_bytes(s))
+}
+
+// The room count in a verdict.
+fn room_in(v: Verdict) -> Room
+    ensures { λ r. ⌜ r ≡ roomOf v ⌝ }
+{
+    match v {
+        Verdict::Accepted(size) => Room::Places(size.room),
+        Verdict::Limit(number) => Room::Refused(Verdict::Limit(number)),
+        Verdict::Precedence(s) => Room::Refused(Verdict::Precedence(s)),
+        Verdict::Hop(s) => Room::Refused(Verdict::Hop(s)),
+        Verdict::Cell(pair) => Room::Refused(Verdict::Cell(pair)),
+        Verdict::Link(clash) => Room::Refused(Verdict::Link(clash)),
+    }
+}

@@ -1,0 +1,54 @@
+-- Parts one after the other: one more, and the first of them.
+use mathlib.Core.Path.{_≡_, refl, sym, ap, _∙_}
+use mathlib.Core.List.{List, [], _∷_, _++_, append-assoc, append-nil}
+use Prim.Native.Nat.{ℕ, zero, suc, _+_, _*_, _-_, _<_, _≤_}
+use native.Mathlib.Omega.{arith}
+use native.Mathlib.Nat.{add-zero, add-suc, add-comm, mul-one, mul-comm}
+use lib.ListN.{length, getD, take, drop}
+use lib.Seq.{drop-cons, take-at}
+use Rattle.space.specs.declared.Vector.{Vector}
+use Rattle.space.specs.Vectors.{entries}
+use Rattle.space.specs.Boxes.{Side, boxOf}
+use Rattle.job.specs.declared.Job.{Job}
+use Rattle.layout.specs.Layout.{joined, entryBytes, vectorBytes, boxBytes}
+use Rattle.layout.proofs.Injective.{joined-length}
+
+module _ {A : Type 0} (f : A → List ℕ) where
+  -- of nothing there are no parts
+  joined-none : (k : ℕ) → joined f k [] ≡ []
+  joined-none zero = refl
+  joined-none (suc k) = refl
+
+  -- the first n parts, then k more
+  joined-split : (k n : ℕ) (xs : List A) → joined f (k + n) xs ≡ joined f n xs ++ joined f k (drop n xs)
+  joined-split k zero xs = rw add-zero
+  joined-split k (suc n) [] = rw add-suc (sym (joined-none k))
+  joined-split k (suc n) (x ∷ xs) = rw add-suc (ap (λ (l : List ℕ). f x ++ l) (joined-split k n xs) ∙ sym (append-assoc (f x) _ _))
+
+  -- one part more
+  pub joined-more : (i : ℕ) (xs : List A) (d : A) → i < length xs → joined f (i + 1) xs ≡ joined f i xs ++ f (getD xs i d)
+  joined-more i xs d h =
+      ap (λ (k : ℕ). joined f k xs) (add-comm i 1)
+      ∙ joined-split 1 i xs
+      ∙ rw (drop-cons xs i d h) (ap (λ (l : List ℕ). joined f i xs ++ l) (append-nil (f (getD xs i d))))
+
+  -- the first n parts of all, where each has w bytes
+  pub joined-take : (w : ℕ) → ((x : A) → length (f x) ≡ w) → (n : ℕ) (xs : List A) → n ≤ length xs → take (n * w) (joined f (length xs) xs) ≡ joined f n xs
+  joined-take w every n xs h =
+      let e : length xs ≡ length xs - n + n = omega arith in
+      ap (λ (k : ℕ). take (n * w) (joined f k xs)) e
+      ∙ rw (joined-split (length xs - n) n xs) (take-at _ _ (n * w) (joined-length f w every n xs h))
+
+-- the first n bytes of all four
+pub vector-take : (n : ℕ) (v : Vector) → n ≤ 4 → take n (vectorBytes 1 4 v) ≡ vectorBytes 1 n v
+vector-take n v h = rw (mul-one n) at (joined-take (entryBytes 1) 1 (λ z. refl) n (entries v) h)
+
+-- the sides of a box, from the bytes of its two corners
+abbrev pub sidesOf : List ℕ → List ℕ → List ℕ
+sidesOf l u = getD l 0 0 ∷ getD u 0 0 ∷ getD l 1 0 ∷ getD u 1 0 ∷ getD l 2 0 ∷ getD u 2 0 ∷ getD l 3 0 ∷ getD u 3 0 ∷ []
+
+-- the first n sides of all four
+pub box-take : (j : Job) → j .n ≤ 4 → take (2 * j .n) (sidesOf (vectorBytes 1 4 (j .bounds .low)) (vectorBytes 1 4 (j .bounds .high))) ≡ boxBytes 1 j
+unfolding boxBytes
+box-take j h =
+    rw (mul-comm 2) (joined-take (λ (s : Side). entryBytes 1 (s .low) ++ entryBytes 1 (s .high)) 2 (λ s. refl) (j .n) (boxOf (j .bounds)) h)

@@ -1,0 +1,5 @@
+pub mod Joined
+pub mod Laying
+pub mod Fitting
+pub mod Theorems
+pub mod RoundTrip

@@ -1,0 +1,40 @@
+-- 'Writer and reader undo each other on all acceptable jobs, and acceptable bytes have exactly one job.'
+use mathlib.Core.Path.{_≡_, refl, sym, ap, subst, _∙_}
+use mathlib.Core.List.{List}
+use Prim.Native.Nat.{ℕ, _≤_}
+use native.Mathlib.Omega.{arith}
+use lib.ListN.{length, take}
+use Rattle.job.specs.declared.Job.{Job}
+use Rattle.job.specs.Limits.{limits}
+use Rattle.job.proofs.Refusing.{first-unique, acceptable}
+use Rattle.layout.specs.Layout.{fileOf}
+use Rattle.layout.proofs.Injective.{file-length}
+use Rattle.reader.specs.Reading.{Reads}
+use Rattle.reader.specs.declared.Reply.{Reply}
+use Rattle.reader.specs.declared.Reply.the-variants as Reply
+use Rattle.reader.proofs.Theorems.{reads-unique}
+use Rattle.writer.specs.declared.Wrote.{Wrote}
+use Rattle.writer.specs.declared.Wrote.the-variants.{Total, Refused, Short}
+use Rattle.writer.specs.Writing.{Writes, over}
+use Rattle.writer.proofs.Theorems.{written}
+
+-- reading what was written gives the job, and no other reply
+pub written-read : (j : Job) (before after : List ℕ) (t : ℕ) (r : Reply) → Writes j before after (Total t) → Reads (take t after) r → r ≡ Reply.Job j
+written-read j before after t r w reads = reads-unique (take t after) r (Reply.Job j) reads (w .0, sym (written j before after t w .0))
+
+-- writing what was read gives the bytes, wherever there is room for them
+pub read-written : (s : List ℕ) (j : Job) (before after : List ℕ) (r : Wrote) → Reads s (Reply.Job j) → length s ≤ length before → Writes j before after r → (r ≡ Total (length s)) × (after ≡ over s before)
+read-written s j before after r reads room w = by r w
+  where
+    total : length s ≡ length (fileOf j)
+    total = ap length (sym (reads .1))
+
+    by : (r : Wrote) → Writes j before after r → (r ≡ Total (length s)) × (after ≡ over s before)
+    by (Total t) w =
+        (ap Total (w .1 ∙ sym (file-length j (reads .0 .shaped)) ∙ sym total), w .3 ∙ ap (λ (file : List ℕ). over file before) (reads .1))
+    by (Refused n) w = absurd (w .1 (first-unique (limits j) n 0 (w .0) (acceptable j (reads .0))))
+    by (Short t) w = let e = file-length j (reads .0 .shaped) in let h = total in absurd (omega arith)
+
+-- acceptable bytes have exactly one job
+pub one-job : (s : List ℕ) (j j′ : Job) → Reads s (Reply.Job j) → Reads s (Reply.Job j′) → j ≡ j′
+one-job s j j′ p q = let e = reads-unique s (Reply.Job j) (Reply.Job j′) p q in cc

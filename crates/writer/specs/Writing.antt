@@ -1,0 +1,25 @@
+-- Writing a job file: refusals 3, 6, 7, 8 and 17, and what the lent bytes then hold.
+use mathlib.Core.Path.{_≡_}
+use mathlib.Core.List.{List, _++_}
+use Prim.Native.Nat.{ℕ, _≤_, _<_}
+use lib.ListN.{length, drop}
+use Rattle.job.specs.declared.Job.{Job}
+use Rattle.job.specs.Refusals.{First}
+use Rattle.job.specs.Limits.{limits, Acceptable}
+use Rattle.layout.specs.Layout.{totalOf, fileOf}
+use Rattle.writer.specs.declared.Wrote.{Wrote}
+use Rattle.writer.specs.declared.Wrote.the-variants.{Total, Refused, Short}
+
+-- the total of the job's file
+abbrev pub totalFor : Job → ℕ
+totalFor j = totalOf 1 (j .n) (j .k) (j .m)
+
+-- the file over the first total bytes, the others as they were
+abbrev pub over : List ℕ → List ℕ → List ℕ
+over file before = file ++ drop (length file) before
+
+-- what a reply says of the job and of the lent bytes, before and after
+abbrev pub Writes : Job → List ℕ → List ℕ → Wrote → Type 0
+Writes j before after (Total t) = Acceptable j × (t ≡ totalFor j) × (t ≤ length before) × (after ≡ over (fileOf j) before)
+Writes j before after (Refused r) = First (limits j) r × (r ≡ 0 → ⊥) × (after ≡ before)
+Writes j before after (Short t) = Acceptable j × (t ≡ totalFor j) × (length before < t) × (after ≡ before)
