@@ -1,7 +1,7 @@
 // The verdict on a job: accepted with its sizes, or the first broken rule with its stream and its first pair.
 pub mod bytes;
-pub mod rules;
-pub mod walk;
+mod rules;
+mod walk;
 
 use crate::rules::Broken;
 use crate::rules::Crowd;
