@@ -15,7 +15,8 @@ use Rattle.space.proofs.VectorLaws.{sized-up, dot-size}
 use Rattle.job.specs.declared.Job.{Job}
 use Rattle.job.specs.declared.Stream.{Stream}
 use Rattle.job.specs.Record.{streamsOf, noStream}
-use Rattle.job.specs.Limits.{Acceptable, Sound, Unused}
+use Rattle.job.specs.Limits.{Acceptable, Unused}
+use Rattle.job.proofs.Accepting.{stream-sound}
 use Rattle.verdict.specs.Mapping.{along, stream, H, S}
 use Rattle.verdict.specs.Searches.{placed}
 
@@ -41,16 +42,8 @@ module _ (j : Job) (a : Acceptable j) where
       by (yes h) = a .rowed .1 .1 .0 (omega arith)
       by (no h) = empty-sized 127 (j .row1) (a .shaped .idle-rows .1 .1 .0 (omega arith))
 
-  -- the streams that are used are sound
-  pub stream-sound : (s : ℕ) → s < j .m → Sound (j .m) (stream j s)
-  stream-sound zero h = a .sound .0 h
-  stream-sound (suc zero) h = a .sound .1 .0 h
-  stream-sound (suc (suc zero)) h = a .sound .1 .1 .0 h
-  stream-sound (suc (suc (suc zero))) h = a .sound .1 .1 .1 .0 h
-  stream-sound (suc (suc (suc (suc s)))) h = let k = a .shaped .streams in absurd (omega arith)
-
   pub along-sized : (s : ℕ) → s < j .m → Sized difference (along j s)
-  along-sized s h = sized-up (omega arith) (stream-sound s h .small)
+  along-sized s h = sized-up (omega arith) (stream-sound j a s h .small)
 
   pub low-sized : Sized coordinate (entries (j .bounds .low))
   low-sized = sized-up (omega arith) (a .boxed .low)

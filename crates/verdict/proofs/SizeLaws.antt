@@ -18,7 +18,8 @@ use Rattle.job.specs.declared.Job.{Job}
 use Rattle.job.specs.Limits.{Acceptable}
 use Rattle.verdict.specs.Mapping.{along, H, hops, delay, delays}
 use Rattle.verdict.specs.Rules.{Ahead, Span}
-use Rattle.verdict.proofs.Fits.{time-sized, stream-sound}
+use Rattle.job.proofs.Accepting.{stream-sound}
+use Rattle.verdict.proofs.Fits.{time-sized}
 
 -- ---- the span of a row
 -- the size of the greatest product

@@ -1,18 +1,18 @@
 -- The entries of an acceptable job fit a byte.
 use mathlib.Core.Path.{_≡_}
-use mathlib.Core.List.{List, [], _∷_}
-use Prim.Native.Nat.{ℕ, zero, suc, _+_, _%_, _<_, _≤_}
+use Prim.Native.Nat.{ℕ, _+_, _%_, _<_, _≤_}
 use native.Mathlib.Omega.{arith}
 use native.Mathlib.Nat.{mod-eq-of-lt}
-use lib.ListN.{length, getD}
+use lib.ListN.{getD}
 use lib.IntN.{ℤ}
 use Rattle.space.specs.declared.Vector.{Vector}
 use Rattle.space.specs.Numbers.{Size}
 use Rattle.space.specs.Vectors.{entries, Sized}
 use Rattle.space.proofs.Parts.{int, magnitude}
 use Rattle.job.specs.declared.Job.{Job}
-use Rattle.job.specs.Record.{FirstsFrom, streamsOf, rowsOf, noStream, zeroVector}
-use Rattle.job.specs.Limits.{Acceptable, Sound, rowLimit}
+use Rattle.job.specs.Record.{streamsOf, rowsOf, noStream, zeroVector}
+use Rattle.job.specs.Limits.{Acceptable}
+use Rattle.job.proofs.Accepting.{stream-sound, row-sized}
 use Rattle.layout.specs.Layout.{complement, InByte, Held}
 use Rattle.layout.proofs.Entries.{below-256}
 
@@ -25,25 +25,14 @@ pub sized-held : {b : ℕ} {v : Vector} → b ≤ 127 → Sized b (entries v) �
 sized-held h s =
     record { x0 = size-in-byte h (s .each .0); x1 = size-in-byte h (s .each .1 .0); x2 = size-in-byte h (s .each .1 .1 .0); x3 = size-in-byte h (s .each .1 .1 .1 .0) }
 
--- what holds of the first n, counted from k, holds of the one that stands i after k
-firsts-at : {A : Type 0} (P : A → Type 0) (n k : ℕ) (xs : List A) (d : A) (i : ℕ) → FirstsFrom k P n xs → k + i < n → i < length xs → P (getD xs i d)
-firsts-at P n k [] d i p h l = absurd (omega arith)
-firsts-at P n k (x ∷ xs) d zero p h l = p .0 (omega arith)
-firsts-at P n k (x ∷ xs) d (suc i) p h l = firsts-at P n (suc k) xs d i (p .1) (omega arith) (omega arith)
-
 module _ (j : Job) (a : Acceptable j) where
   -- the vector of a stream that is used
   pub stream-held : (i : ℕ) → i < j .m → Held (getD (streamsOf j) i noStream .d)
-  stream-held i h =
-      let s = a .shaped .streams in
-      sized-held (omega arith) (firsts-at (Sound (j .m)) (j .m) 0 (streamsOf j) noStream i (a .sound) (omega arith) (omega arith) .small)
+  stream-held i h = sized-held (omega arith) (stream-sound j a i h .small)
 
   -- H, and a row of S that is used
   pub row-held : (i : ℕ) → i < 1 + j .k → Held (getD (rowsOf j) i zeroVector)
-  row-held i h =
-      let s = a .shaped .places in
-      sized-held (omega arith)
-      (firsts-at (λ (v : Vector). Sized rowLimit (entries v)) (1 + j .k) 0 (rowsOf j) zeroVector i (a .rowed) (omega arith) (omega arith))
+  row-held i h = sized-held (omega arith) (row-sized j a i h)
 
 -- the one byte of an entry
 pub one-byte : (z : ℤ) → InByte z → complement 1 z % 256 ≡ complement 1 z
