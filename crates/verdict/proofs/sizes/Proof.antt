@@ -18,11 +18,15 @@ use Rattle.verdict.proofs.sizes.Tie as tie
 asked : {j : Job} {h : List ℤ} → Acceptable j → Sized 127 h → Sized 127 h × Sized 127 (entries (j .bounds .low)) × Sized 127 (entries (j .bounds .high)) × Solid (boxOf (j .bounds))
 asked a p = (p, a .boxed .low, a .boxed .high, a .boxed .solid)
 
+-- the rows of an acceptable job are small
+small : (s : tie.Start) → Sized 127 (entries (s .args .j .time)) × Sized 127 (entries (s .args .j .row0)) × Sized 127 (entries (s .args .j .row1))
+small s = (time-sized (s .args .j) (s .pre .0), row0-sized (s .args .j) (s .pre .0), row1-sized (s .args .j) (s .pre .0))
+
 span-requires : tie.Need-span-requires
-span-requires c κs = let s = c .before .before .before .before in asked (s .pre .0) (row0-sized (s .args .j) (s .pre .0))
+span-requires c κs = let s = c .before .before .before .before in asked (s .pre .0) (search (small s))
 
 span-requires-2 : tie.Need-span-requires-2
-span-requires-2 c κs = let s = c .before .before .before .before .before in asked (s .pre .0) (row1-sized (s .args .j) (s .pre .0))
+span-requires-2 c κs = let s = c .before .before .before .before .before in asked (s .pre .0) (search (small s))
 
 -- cells are few
 cells-few : (c : tie.After-span2) → c .before .span .result * c .span2 .result ≤ 129033 * 129033
@@ -32,7 +36,7 @@ mul-cells : tie.Need-mul-cells
 mul-cells c = fits-under (cells-few c) tt
 
 span-requires-3 : tie.Need-span-requires-3
-span-requires-3 c κs = let s = c .before .before .before .before .before .before in asked (s .pre .0) (time-sized (s .args .j) (s .pre .0))
+span-requires-3 c κs = let s = c .before .before .before .before .before .before in asked (s .pre .0) (search (small s))
 
 all-delays-requires : tie.Need-all-delays-requires
 all-delays-requires c κs = search needs
