@@ -1,0 +1,15 @@
+-- 'Tables hold stream by stream, points in box order, as u32.'
+use mathlib.Core.List.{List}
+use Prim.Native.Nat.{ℕ, _+_, _*_}
+use lib.ListN.{getD}
+use Rattle.space.specs.Boxes.{countOf}
+use Rattle.job.specs.declared.Job.{Job}
+use Rattle.verdict.specs.Mapping.{box}
+
+-- how many points the job has
+abbrev pub points : Job → ℕ
+points j = countOf (box j)
+
+-- the entry of a table for stream s and the point at place k
+abbrev pub entryFor : Job → List ℕ → ℕ → ℕ → ℕ
+entryFor j table s k = getD table (s * points j + k) 0

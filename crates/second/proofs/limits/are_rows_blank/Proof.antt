@@ -1,0 +1,20 @@
+-- The loop ends: its counter runs to a fixed end. Nothing else is asked.
+use borrow.Author.Needs.{needs}
+use Prim.Native.Nat.{_-_}
+use Rattle.second.proofs.limits.are_rows_blank.Statement.{statement}
+use Rattle.second.proofs.limits.are_rows_blank.Tie as tie
+
+abbrev Inv-loop : tie.InvT-loop
+Inv-loop j n k i₀ i = Unit
+
+abbrev μ-loop : tie.MeasureT-loop
+μ-loop j n k i₀ i = 3 - i
+
+add-i : tie.Need-add-i Inv-loop μ-loop
+add-i c = search needs
+
+loop-less : tie.Need-loop-less Inv-loop μ-loop
+loop-less c = search needs
+
+pub are-rows-blank-spec : {M : Type 1} → statement M
+are-rows-blank-spec = tie.close (tie.spec Inv-loop μ-loop (λ c κs. tt) (λ c κs. tt) (λ c. tt) (λ c κs. tt) (λ c κs. tt) (λ c. tt) add-i loop-less (λ c. tt) (λ c. tt))

@@ -1,0 +1,20 @@
+-- The difference of two numbers that are kept fits.
+use borrow.Author.Needs.{needs}
+use Rattle.space.proofs.Machine.{signed}
+use Rattle.second.proofs.numbers.minus.Statement.{statement}
+use Rattle.second.proofs.numbers.minus.Tie as tie
+
+kept-requires : tie.Need-kept-requires
+kept-requires c κs = search needs
+
+kept-requires-2 : tie.Need-kept-requires-2
+kept-requires-2 c κs = search needs
+
+sub-result : tie.Need-sub-result
+sub-result c = search (needs, signed)
+
+returns : tie.Need-returns
+returns c = search needs
+
+pub minus-spec : {M : Type 1} → statement M
+minus-spec = tie.close (tie.spec kept-requires kept-requires-2 sub-result returns)

@@ -1,0 +1,20 @@
+-- The product of two numbers that are kept fits.
+use borrow.Author.Needs.{needs}
+use Rattle.space.proofs.Machine.{signed}
+use Rattle.second.proofs.numbers.times.Statement.{statement}
+use Rattle.second.proofs.numbers.times.Tie as tie
+
+kept-requires : tie.Need-kept-requires
+kept-requires c κs = search needs
+
+kept-requires-2 : tie.Need-kept-requires-2
+kept-requires-2 c κs = search needs
+
+mul-result : tie.Need-mul-result
+mul-result c = search (needs, signed)
+
+returns : tie.Need-returns
+returns c = search needs
+
+pub times-spec : {M : Type 1} → statement M
+times-spec = tie.close (tie.spec kept-requires kept-requires-2 mul-result returns)
