@@ -13,6 +13,15 @@ ghost use Rattle.job.specs.Refusals.{First};
 ghost use Rattle.job.specs.Record.{Firsts, Others, streamsOf, rowsOf};
 ghost use Rattle.job.specs.Limits.{Unused, Idle, Shaped, Boxed, Sound, Ruled, Rowed, limits, boundLimit, rowLimit, pointLimit, stepLimit};
 
+// The limits of form 1, as in specs/Limits: the sizes of bounds, of the entries of H and S and of those of d, and the number of points.
+const BOUND_LIMIT: u64 = 127;
+
+const ROW_LIMIT: u64 = 127;
+
+const STEP_LIMIT: u64 = 15;
+
+const POINT_LIMIT: u64 = 1024;
+
 // The number of the first limit that the record breaks, 0 for none.
 pub fn number(j: Job) -> u8
     ensures { λ r. ⌜ First (limits j) r ⌝ }
@@ -51,11 +60,11 @@ pub fn is_boxed(b: Bounds) -> bool
 {
     let l = b.low;
     let u = b.high;
-    if !(is_sized(l, 127) & is_sized(u, 127)) {
+    if !(is_sized(l, BOUND_LIMIT) & is_sized(u, BOUND_LIMIT)) {
         return false;
     }
     // the low corner is a point of the box exactly if l ≤ u for each
-    space::bounds::contains(b, l) & (space::bounds::count(b) <= 1024)
+    space::bounds::contains(b, l) & (space::bounds::count(b) <= POINT_LIMIT)
 }
 
 // 7: every stream that is used keeps its line.
@@ -80,7 +89,8 @@ pub fn is_rowed(j: Job) -> bool
     let h = j.time;
     let row0 = j.row0;
     let row1 = j.row1;
-    is_sized(h, 127) & ((!(1 <= k) | is_sized(row0, 127)) & (!(2 <= k) | is_sized(row1, 127)))
+    is_sized(h, ROW_LIMIT)
+        & ((!(1 <= k) | is_sized(row0, ROW_LIMIT)) & (!(2 <= k) | is_sized(row1, ROW_LIMIT)))
 }
 
 // Are n, k and m in range?
@@ -162,7 +172,7 @@ fn is_sound(s: Stream, m: u8) -> bool
     ensures { λ r. ⌜ Tells (Sound m s) r ⌝ }
 {
     let d = s.d;
-    (is_sized(d, 15) & space::is_forward(d))
+    (is_sized(d, STEP_LIMIT) & space::is_forward(d))
         & ((space::divisor::gcd_of_entries(d) == 1) & ((s.kind <= 1) & is_ruled(s, m)))
 }
 
