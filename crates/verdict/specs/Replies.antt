@@ -1,9 +1,9 @@
--- The verdict: which reply is right for a job.
+-- The verdict: which reply is right for a job, and the document's number and values of each.
 use mathlib.Core.Path.{_≡_}
 use mathlib.Core.Logic.{_⊎_}
 use mathlib.Core.List.{List}
 use Prim.Native.Nat.{ℕ, _<_}
-use lib.IntN.{ℤ}
+use lib.IntN.{ℤ, pos}
 use Rattle.space.specs.Vectors.{entries, minusOf}
 use Rattle.space.specs.Order.{Before, AtMost}
 use Rattle.job.specs.declared.Job.{Job}
@@ -49,3 +49,28 @@ Claims j (Accepted z) = Sizes j z
 pub record Says (j : Job) (v : Verdict) : Type 0 where
   pub kept : Keeps j (turn v)
   pub claim : Claims j v
+
+-- 'No.' and 'Returns besides'
+abbrev pub number : Verdict → ℕ
+number (Accepted z) = 0
+number (Limit r) = r
+number (Precedence s) = 9
+number (Hop s) = 10
+number (Cell c) = 11
+number (Link c) = 12
+
+abbrev pub streamOf : Verdict → ℕ
+streamOf (Accepted z) = 0
+streamOf (Limit r) = 0
+streamOf (Precedence s) = s
+streamOf (Hop s) = s
+streamOf (Cell c) = 0
+streamOf (Link c) = c .stream
+
+abbrev pub hopsOf : Verdict → ℤ
+hopsOf (Accepted z) = pos 0
+hopsOf (Limit r) = pos 0
+hopsOf (Precedence s) = pos 0
+hopsOf (Hop s) = pos 0
+hopsOf (Cell c) = pos 0
+hopsOf (Link c) = c .hops
