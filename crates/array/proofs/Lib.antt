@@ -1,4 +1,8 @@
-pub mod Ruling
-pub mod LoopLaws
-pub mod LoopUnique
-pub mod RowLaws
+pub mod FrameLaws
+pub mod RoomLaws
+pub mod LendingLaws
+pub mod WorkLaws
+pub mod StoreLaws
+pub mod PointLaws
+pub mod RunLaws
+pub mod ReplyLaws

@@ -1,6 +1,5 @@
-pub mod Tables
-pub mod Cells
-pub mod Loops
-pub mod LoopBytes
+pub mod Frames
+pub mod Ticks
+pub mod Runs
+pub mod Lookups
 pub mod Steps
-pub mod Rows

@@ -1,4 +1,186 @@
-// The array and the loop: what a job computes.
-pub mod cell;
-pub mod looped;
-pub mod row;
+// The array: one tick, and a run of all ticks.
+mod frame;
+pub mod lookup;
+mod store;
+mod work;
+
+use crate::frame::Frame;
+use job::Job;
+use verdict::Size;
+use verdict::Verdict;
+ghost use mathlib.Core.Path.{_≡_};
+ghost use Prim.Native.Nat.{_<_, _≤_};
+ghost use lib.ListN.{length};
+ghost use Rattle.job.specs.Limits.{Acceptable};
+ghost use Rattle.job.specs.declared.Job.{Job};
+ghost use Rattle.array.specs.Ticks.{Ticked, Ran, cleared};
+ghost use Rattle.array.specs.Runs.{Answers, Runs, Steps, OfBytes, runChecks};
+ghost use Rattle.array.specs.Steps.{Tabled, Roomy, Lacks};
+
+// What a run or a tick answers: the tick count; the verdict's refusal; 13; 14 and 15 with R; 16.
+pub enum Reply {
+    Ticks(u64),
+    Refused(Verdict),
+    Tables,
+    Large(u64),
+    Few(u64),
+    Late,
+}
+
+// The same in numbers: the number of refusal, 0 for none, and the tick count, or R for 14 and 15.
+pub struct Answer {
+    pub number: u8,
+    pub count: u64,
+}
+
+// What a reply answers.
+pub fn answer_of(r: Reply) -> Answer
+    ensures { λ a. ⌜ Answers r a ⌝ }
+{
+    match r {
+        Reply::Ticks(n) => Answer {
+            number: 0,
+            count: n,
+        },
+        Reply::Refused(v) => {
+            let a = verdict::numbers::answer_of(v);
+            Answer {
+                number: a.number,
+                count: 0,
+            }
+        }
+        Reply::Tables => Answer {
+            number: 13,
+            count: 0,
+        },
+        Reply::Large(room) => Answer {
+            number: 14,
+            count: room,
+        },
+        Reply::Few(room) => Answer {
+            number: 15,
+            count: room,
+        },
+        Reply::Late => Answer {
+            number: 16,
+            count: 0,
+        },
+    }
+}
+
+// The run of a record: the first R places cleared, then every tick in order.
+pub fn run_of(j: Job, input: &[u32], values: &mut [u32], places: &mut [u32]) -> Reply
+    ensures { λ r. ⌜ Runs j (now (input .entry)) (now (values .entry)) (now (places .entry)) (now (values .exit)) (now (places .exit)) r ⌝ }
+{
+    let v = verdict::verdict_of(j);
+    let Verdict::Accepted(size) = v else {
+        return Reply::Refused(v);
+    };
+    let reply = lacking(j, size, input.len(), values.len(), places.len());
+    let Reply::Ticks(ticks) = reply else {
+        return reply;
+    };
+    let f = crate::frame::frame_of(j);
+    clear(&mut places[..], size.room as usize);
+    all_ticks(j, f, ticks, input, &mut values[..], &mut places[..]);
+    Reply::Ticks(ticks)
+}
+
+// One tick of a record, from the lent places as they are.
+pub fn tick_of(j: Job, t: u64, input: &[u32], values: &mut [u32], places: &mut [u32]) -> Reply
+    ensures { λ r. ⌜ Steps t j (now (input .entry)) (now (values .entry)) (now (places .entry)) (now (values .exit)) (now (places .exit)) r ⌝ }
+{
+    let v = verdict::verdict_of(j);
+    let Verdict::Accepted(size) = v else {
+        return Reply::Refused(v);
+    };
+    let reply = lacking(j, size, input.len(), values.len(), places.len());
+    let Reply::Ticks(ticks) = reply else {
+        return reply;
+    };
+    if ticks <= t {
+        return Reply::Late;
+    }
+    let f = crate::frame::frame_of(j);
+    one_tick(j, f, t, input, &mut values[..], &mut places[..]);
+    Reply::Ticks(ticks)
+}
+
+// The run of the job that the bytes are.
+pub fn run_of_bytes(s: &[u8], input: &[u32], values: &mut [u32], places: &mut [u32]) -> Reply
+    ensures { λ r. ⌜ OfBytes (now (s .entry)) (λ (j : Job). Runs j (now (input .entry)) (now (values .entry)) (now (places .entry)) (now (values .exit)) (now (places .exit)) r) ((now (values .exit) ≡ now (values .entry)) × (now (places .exit) ≡ now (places .entry))) r ⌝ }
+{
+    let read = reader::read(s);
+    match read {
+        reader::Reply::Refused(number) => Reply::Refused(Verdict::Limit(number)),
+        reader::Reply::Job(j) => run_of(j, input, &mut values[..], &mut places[..]),
+    }
+}
+
+// One tick of the job that the bytes are.
+pub fn tick_of_bytes(
+    s: &[u8],
+    t: u64,
+    input: &[u32],
+    values: &mut [u32],
+    places: &mut [u32],
+) -> Reply
+    ensures { λ r. ⌜ OfBytes (now (s .entry)) (λ (j : Job). Steps t j (now (input .entry)) (now (values .entry)) (now (places .entry)) (now (values .exit)) (now (places .exit)) r) ((now (values .exit) ≡ now (values .entry)) × (now (places .exit) ≡ now (places .entry))) r ⌝ }
+{
+    let read = reader::read(s);
+    match read {
+        reader::Reply::Refused(number) => Reply::Refused(Verdict::Limit(number)),
+        reader::Reply::Job(j) => tick_of(j, t, input, &mut values[..], &mut places[..]),
+    }
+}
+
+// The first check of 13 to 15 that tables and places so long do not pass, or the tick count.
+fn lacking(j: Job, size: Size, input: usize, values: usize, places: usize) -> Reply
+    requires { ⌜ Acceptable j ⌝ }
+    ensures { λ r. ⌜ Lacks (runChecks j input values places) size r ⌝ }
+{
+    let table = loops::looped::place_in_table(j.m, space::bounds::count(j.bounds), 0);
+    if (input != table) | (values != table) {
+        return Reply::Tables;
+    }
+    if 8192 < size.room {
+        return Reply::Large(size.room);
+    }
+    if (places as u64) < size.room {
+        return Reply::Few(size.room);
+    }
+    Reply::Ticks(size.ticks)
+}
+
+// The first n places are cleared.
+fn clear(places: &mut [u32], n: usize)
+    requires { ⌜ n ≤ length (now places) ⌝ }
+    ensures { λ _. ⌜ now (places .exit) ≡ cleared n (now (places .entry)) ⌝ }
+{
+    let mut i = 0;
+    while i < n {
+        places[i] = 0;
+        i += 1;
+    }
+}
+
+// Every tick in order.
+fn all_ticks(j: Job, f: Frame, ticks: u64, input: &[u32], values: &mut [u32], places: &mut [u32])
+    requires { ⌜ Tabled j f (now input) × Tabled j f (now values) × Roomy j (now places) ⌝ }
+    ensures { λ _. ⌜ Ran j (now (input .entry)) (now (places .entry)) (now (values .entry)) ticks (now (places .exit)) (now (values .exit)) ⌝ }
+{
+    let mut t: u64 = 0;
+    while t < ticks {
+        one_tick(j, f, t, input, &mut values[..], &mut places[..]);
+        t += 1;
+    }
+}
+
+// One tick: all arrivals are read, and the values of its points worked, before any place is written.
+fn one_tick(j: Job, f: Frame, t: u64, input: &[u32], values: &mut [u32], places: &mut [u32])
+    requires { ⌜ Tabled j f (now input) × Tabled j f (now values) × Roomy j (now places) ⌝ }
+    ensures { λ _. ⌜ Ticked j (now (input .entry)) t (now (places .entry)) (now (values .entry)) (now (places .exit)) (now (values .exit)) ⌝ }
+{
+    crate::work::work(j, f, t, input, &mut values[..], &places[..]);
+    crate::store::store(j, f, t, &values[..], &mut places[..]);
+}

@@ -10,21 +10,16 @@ use lib.IntN.{ℤ, pos, negsuc, negℤ, _+ℤ_, _-ℤ_, _*ℤ_}
 use lib.Signed.{_≤ℤ_, ltZ, ≤ℤ-refl}
 use Rattle.space.specs.Numbers.{Size}
 use Rattle.space.specs.Vectors.{dotOf, timesOf, Sized}
-use Rattle.space.specs.Boxes.{Side, Box, In, Solid, Least, Greatest}
+use Rattle.space.specs.Boxes.{Side, Box, In, Solid, Least, Greatest, cornerOf, leastOf, greatestOf}
 use Rattle.space.proofs.Parts.{int, sum, difference, opposite, parts, ring⊖, int⊖}
 use Rattle.space.proofs.Ints.{≤ℤ-antisymm, *ℤ-mono, *ℤ-anti}
 use Rattle.space.proofs.Machine.{lt-true, lt-false}
-use Rattle.space.proofs.VectorLaws.{dot-size}
+use Rattle.space.proofs.VectorLaws.{dot-size, times-length}
 use Rattle.space.proofs.BoxLaws.{SidesSized, in-sized}
 
 -- a where the row's entry h is not negative, else b
 abbrev pub pick : ℤ → ℤ → ℤ → ℤ
 pick h a b = cond (ltZ h (pos 0)) b a
-
-unfoldable pub leastCorner : List ℤ → Box → List ℤ
-leastCorner [] B = []
-leastCorner (h ∷ hs) [] = []
-leastCorner (h ∷ hs) (s ∷ ss) = pick h (s .low) (s .high) ∷ leastCorner hs ss
 
 -- ---- one entry: what is picked is one of the two, whichever holds of both holds of it
 pub picked : (Q : ℤ → Type 0) (h a b : ℤ) → Q a → Q b → Q (pick h a b)
@@ -48,23 +43,23 @@ add-both : {a b c d : ℤ} → a ≤ℤ b → c ≤ℤ d → (a +ℤ c) ≤ℤ (
 add-both {a} {b} {c} {d} p q = omega (int, sum a c, sum b d)
 
 -- ---- the corners are points of the box, and no point's product passes theirs
-pub least-corner-in : (h : List ℤ) (B : Box) → length h ≡ length B → Solid B → In B (leastCorner h B)
-unfolding In Solid leastCorner
+pub least-corner-in : (h : List ℤ) (B : Box) → length h ≡ length B → Solid B → In B (cornerOf h B)
+unfolding In Solid cornerOf
 least-corner-in [] [] e w = tt
 least-corner-in [] (s ∷ ss) e w = absurd (omega arith)
 least-corner-in (h ∷ hs) [] e w = absurd (omega arith)
 least-corner-in (h ∷ hs) (s ∷ ss) e w = let i = pick-in (s .low) (s .high) h (w .0) in (i .0, i .1, least-corner-in hs ss (suc-inj e) (w .1))
 
-pub least-below : (h : List ℤ) (B : Box) (p : List ℤ) → In B p → dotOf h (leastCorner h B) ≤ℤ dotOf h p
-unfolding In dotOf leastCorner
+pub least-below : (h : List ℤ) (B : Box) (p : List ℤ) → In B p → dotOf h (cornerOf h B) ≤ℤ dotOf h p
+unfolding In dotOf cornerOf
 least-below [] B p i = ≤ℤ-refl (pos 0)
 least-below (h ∷ hs) [] [] i = ≤ℤ-refl (pos 0)
 least-below (h ∷ hs) [] (x ∷ xs) i = absurd i
 least-below (h ∷ hs) (s ∷ ss) [] i = absurd i
 least-below (h ∷ hs) (s ∷ ss) (x ∷ xs) i = add-both (pick-least h (s .low) x (s .high) (i .0) (i .1)) (least-below hs ss xs (i .2))
 
-pub least-met : (h : List ℤ) (B : Box) → length h ≡ length B → Solid B → Least h B (dotOf h (leastCorner h B))
-least-met h B e w = record { met = (leastCorner h B, least-corner-in h B e w, refl); below = least-below h B }
+pub least-met : (h : List ℤ) (B : Box) → length h ≡ length B → Solid B → Least h B (dotOf h (cornerOf h B))
+least-met h B e w = record { met = (cornerOf h B, least-corner-in h B e w, refl); below = least-below h B }
 
 -- the greatest is the least of the opposite row, turned
 opposite-dot : (h p : List ℤ) → dotOf (timesOf (negsuc 0) h) p ≡ negℤ (dotOf h p)
@@ -88,6 +83,19 @@ least-turned {h} {B} {r} L =
 
     over : (p : List ℤ) → r ≤ℤ dotOf (timesOf (negsuc 0) h) p → dotOf h p ≤ℤ (pos 0 -ℤ r)
     over p k = let o = opposite-dot h p in omega (int, opposite (dotOf h p), difference (pos 0) r)
+
+-- the definitions are what they say
+pub least-is : (h : List ℤ) (B : Box) → length h ≡ length B → Solid B → Least h B (leastOf h B)
+unfolding leastOf
+least-is h B e w = least-met h B e w
+
+pub greatest-is : (h : List ℤ) (B : Box) → length h ≡ length B → Solid B → Greatest h B (greatestOf h B)
+unfolding greatestOf
+greatest-is h B e w =
+    let o = timesOf (negsuc 0) h in
+    let c = cornerOf o B in
+    let turned = opposite-dot h c in
+    subst (Greatest h B) (omega (int, opposite (dotOf h c), difference (pos 0) (dotOf o c))) (least-turned (least-met o B (times-length (negsuc 0) h ∙ e) w))
 
 -- its size
 pub least-size : {a : ℕ} (b : ℕ) {h : List ℤ} {B : Box} {r : ℤ} → Sized a h → SidesSized b B → Least h B r → Size (length h * (a * b)) r

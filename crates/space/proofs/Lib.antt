@@ -11,3 +11,4 @@ pub mod Digits
 pub mod PairLaws
 pub mod Padding
 pub mod Telling
+pub mod BackLaws

@@ -50,6 +50,11 @@ granted true t e = t .holds refl
 granted false t e = never e
 
 -- ---- what a flag, and a test on numbers, tells
+-- what holds is told
+pub told : {P : Type 0} (r : Bool) → Tells P r → P → r ≡ true
+told true t h = refl
+told false t h = absurd (t .fails refl h)
+
 pub tells-flag : (b : Bool) → Tells (b ≡ true) b
 tells-flag b = record { holds = λ e. e; fails = λ e h. never (sym h ∙ e) }
 

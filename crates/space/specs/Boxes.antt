@@ -1,13 +1,17 @@
 -- 'Box: bounds l ≤ u for each' dimension, of any number of them; its points and their places in box order.
 use mathlib.Core.Path.{_≡_}
+use mathlib.Core.Bool.{Bool, true, false, cond, _&&_}
 use mathlib.Core.List.{List, [], _∷_}
+use mathlib.Core.Option.{Option, none, some}
 use Prim.Native.Nat.{ℕ, _+_, _*_, _/_, _%_}
 use lib.ListN.{length}
-use lib.IntN.{ℤ, pos, _+ℤ_}
-use lib.Signed.{_≤ℤ_}
+use lib.IntN.{ℤ, pos, negsuc, _+ℤ_}
+use lib.Signed.{_≤ℤ_, leZ, ltZ}
 use Rattle.space.specs.Numbers.{steps}
-use Rattle.space.specs.Vectors.{dotOf, plusOf}
+use Rattle.space.specs.Vectors.{dotOf, plusOf, minusOf, timesOf}
 use Rattle.space.specs.declared.bounds.Bounds.{Bounds}
+use Rattle.space.specs.declared.bounds.Found.{Found}
+use Rattle.space.specs.declared.bounds.Found.the-variants.{At, Nowhere}
 
 -- the bounds of one dimension
 pub record Side : Type 0 where
@@ -63,6 +67,22 @@ unfoldable pub pointOf : Box → ℕ → List ℤ
 pointOf [] k = []
 pointOf (s ∷ ss) k = (s .low +ℤ pos (k / countOf ss)) ∷ pointOf ss (k % countOf ss)
 
+-- whether x is a point of the box
+abbrev pub inside : Box → List ℤ → Bool
+inside [] [] = true
+inside [] (x ∷ xs) = false
+inside (s ∷ ss) [] = false
+inside (s ∷ ss) (x ∷ xs) = leZ (s .low) x && (leZ x (s .high) && inside ss xs)
+
+-- the place of x - d, where it is in the box, for the point x at place k
+unfoldable pub backOf : Box → List ℤ → ℕ → Option ℕ
+backOf B d k = cond (inside B (minusOf (pointOf B k) d)) (some (placeOf B (minusOf (pointOf B k) d))) none
+
+-- the place that was found
+abbrev pub foundOf : Found → Option ℕ
+foundOf (At k) = some k
+foundOf Nowhere = none
+
 -- r is the least product of h and a point of the box
 pub record Least (h : List ℤ) (B : Box) (r : ℤ) : Type 0 where
   pub met : (p : List ℤ) × In B p × (dotOf h p ≡ r)
@@ -72,3 +92,16 @@ pub record Least (h : List ℤ) (B : Box) (r : ℤ) : Type 0 where
 pub record Greatest (h : List ℤ) (B : Box) (r : ℤ) : Type 0 where
   pub met : (p : List ℤ) × In B p × (dotOf h p ≡ r)
   pub above : (p : List ℤ) → In B p → dotOf h p ≤ℤ r
+
+-- the corner at which the product is least: of each side the end that the sign of the row's entry picks
+unfoldable pub cornerOf : List ℤ → Box → List ℤ
+cornerOf [] B = []
+cornerOf (h ∷ hs) [] = []
+cornerOf (h ∷ hs) (s ∷ ss) = cond (ltZ h (pos 0)) (s .high) (s .low) ∷ cornerOf hs ss
+
+-- the least product, and the greatest, at the corner of the opposite row (proofs/ExtremeLaws: they are `Least` and `Greatest`)
+unfoldable pub leastOf : List ℤ → Box → ℤ
+leastOf h B = dotOf h (cornerOf h B)
+
+unfoldable pub greatestOf : List ℤ → Box → ℤ
+greatestOf h B = dotOf h (cornerOf (timesOf (negsuc 0) h) B)

@@ -9,12 +9,18 @@ ghost use lib.Signed.{ltZ, _≤ℤ_};
 ghost use Rattle.space.specs.Numbers.{Size, Tells, steps, coordinate, difference, limit};
 ghost use Rattle.space.specs.Vectors.{entries, dotOf, plusOf, Sized};
 ghost use Rattle.space.specs.Order.{AtMost};
-ghost use Rattle.space.specs.Boxes.{In, Apart, Solid, boxOf, across, countOf, placeOf, pointOf, Least, Greatest};
+ghost use Rattle.space.specs.Boxes.{In, Apart, Solid, boxOf, across, countOf, placeOf, pointOf, backOf, foundOf, Least, Greatest};
 
 // The bounds of a box, l and u of each dimension. An unused dimension is 0..0.
 pub struct Bounds {
     pub low: Vector,
     pub high: Vector,
+}
+
+// Where a point stands, if it is in the box.
+pub enum Found {
+    At(u64),
+    Nowhere,
 }
 
 // A whole number, not negative, for each dimension.
@@ -62,6 +68,19 @@ pub fn point(b: Bounds, k: u64) -> Vector
 {
     let l = b.low;
     crate::plus(l, offset(k, lengths(b)))
+}
+
+// The place of x - d for the point x at place k, if it is in the box.
+pub fn back(b: Bounds, d: Vector, k: u64) -> Found
+    requires { ⌜ Sized difference (entries (b .low)) × Sized difference (entries (b .high)) × Sized difference (entries d) × (k < countOf (boxOf b)) ⌝ }
+    ensures { λ r. ⌜ foundOf r ≡ backOf (boxOf b) (entries d) k ⌝ }
+{
+    let p = crate::minus(point(b, k), d);
+    if contains(b, p) {
+        Found::At(place(b, p))
+    } else {
+        Found::Nowhere
+    }
 }
 
 // The least product of a row and a point of the box.
@@ -112,7 +131,7 @@ pub fn start(b: Bounds, y: Vector) -> Vector
 }
 
 // Does x lie from l to u?
-fn within(l: i64, x: i64, u: i64) -> bool
+pub fn within(l: i64, x: i64, u: i64) -> bool
     ensures { λ r. ⌜ Tells ((l ≤ℤ x) × (x ≤ℤ u)) r ⌝ }
 {
     if x < l {
@@ -122,7 +141,7 @@ fn within(l: i64, x: i64, u: i64) -> bool
 }
 
 // How far x lies above l, 0 where it does not.
-fn steps_above(l: i64, x: i64) -> u64
+pub fn steps_above(l: i64, x: i64) -> u64
     requires { ⌜ Size limit l × Size limit x ⌝ }
     ensures { λ r. ⌜ r ≡ steps l x ⌝ }
 {

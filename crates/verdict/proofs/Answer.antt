@@ -11,12 +11,12 @@ use Rattle.space.specs.declared.Vector.{Vector}
 use Rattle.space.specs.declared.bounds.Bounds.{Bounds}
 use Rattle.space.specs.Vectors.{entries, dotOf, plusOf, minusOf, timesOf}
 use Rattle.space.specs.Divisors.{gcdOf}
-use Rattle.space.specs.Boxes.{boxOf, Solid, countOf, placeOf, pointOf}
+use Rattle.space.specs.Boxes.{boxOf, Solid, countOf, placeOf, pointOf, cornerOf, leastOf, greatestOf}
 use Rattle.space.proofs.Ints.{times-none, whole-quot}
 use Rattle.space.proofs.VectorLaws.{minus-plus}
 use Rattle.space.proofs.MultipleLaws.{times-cancel}
 use Rattle.space.proofs.BoxLaws.{place-below}
-use Rattle.space.proofs.ExtremeLaws.{leastCorner, least-met, least-turned}
+use Rattle.space.proofs.ExtremeLaws.{least-is, greatest-is}
 use Rattle.space.proofs.PairLaws.{startOf, start-in, start-least, in-apart, apart-in}
 use Rattle.space.proofs.PairLaws as PairLaws
 use Rattle.job.specs.declared.Job.{Job}
@@ -26,7 +26,8 @@ use Rattle.job.proofs.Refusing.{accepted}
 use Rattle.verdict.specs.Mapping.{box, stream, along, H, S, g, Stationary, delays}
 use Rattle.verdict.specs.Rules.{Ahead, Even, Collide, Meeting, senders, Keeps, Span, Sizes}
 use Rattle.verdict.specs.Replies.{Lowest, FirstPair, Says}
-use Rattle.verdict.specs.Searches.{placed, Finds, Still, Meets, Finds-gap, Finds-crowd, Finds-jam, Finds-jams}
+use Rattle.verdict.specs.Courses.{placed}
+use Rattle.verdict.specs.Searches.{Finds, Still, Meets, Finds-gap, Finds-crowd, Finds-jam, Finds-jams}
 use Rattle.verdict.specs.declared.Size.{Size}
 use Rattle.verdict.specs.declared.Pair.{Pair}
 use Rattle.verdict.specs.declared.Verdict.{Verdict}
@@ -266,12 +267,9 @@ jams j h = let w = lowest-of (Clear j) (clear j h) (j .m) in jams-at j h (w .0) 
 -- ---- the sizes
 -- from the least to the greatest product of a row, both at corners of the box
 unfoldable span : (v : Vector) (b : Bounds) → Solid (boxOf b) → (n : ℕ) × Span (entries v) (boxOf b) n
-unfolding dotOf timesOf leastCorner
+unfolding dotOf timesOf cornerOf leastOf greatestOf
 span v b h =
-    let l = dotOf (entries v) (leastCorner (entries v) (boxOf b)) in
-    let o = timesOf (negsuc 0) (entries v) in
-    let u = pos 0 -ℤ dotOf o (leastCorner o (boxOf b)) in
-    (natAbs (u -ℤ l) + 1, span-is (least-met (entries v) (boxOf b) refl h) (least-turned (least-met o (boxOf b) refl h)))
+    (natAbs (greatestOf (entries v) (boxOf b) -ℤ leastOf (entries v) (boxOf b)) + 1, span-is (least-is (entries v) (boxOf b) refl h) (greatest-is (entries v) (boxOf b) refl h))
 
 -- cells, ticks and room
 unfoldable size : (j : Job) → Solid (box j) → (z : Size) × Sizes j z

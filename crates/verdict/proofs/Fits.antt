@@ -18,7 +18,7 @@ use Rattle.job.specs.Record.{streamsOf, noStream}
 use Rattle.job.specs.Limits.{Acceptable, Unused}
 use Rattle.job.proofs.Accepting.{stream-sound}
 use Rattle.verdict.specs.Mapping.{along, stream, H, S}
-use Rattle.verdict.specs.Searches.{placed}
+use Rattle.verdict.specs.Courses.{placed}
 
 -- a vector with no coordinate used is as small as any
 empty-sized : (b : ℕ) (v : Vector) → Unused 0 v → Sized b (entries v)

@@ -8,5 +8,4 @@ pub mod SizeLaws
 pub mod Decisions
 pub mod LimitDecisions
 pub mod Answer
-pub mod Table
 pub mod UniqueBytes

@@ -27,7 +27,8 @@ use Rattle.job.specs.declared.Stream.{Stream}
 use Rattle.job.specs.Limits.{Acceptable}
 use Rattle.verdict.specs.Mapping.{stream, along, H, S, g, Stationary, orOne, hops, hop, delay}
 use Rattle.verdict.specs.Rules.{Collide}
-use Rattle.verdict.specs.Searches.{placed, Meets}
+use Rattle.verdict.specs.Courses.{placed}
+use Rattle.verdict.specs.Searches.{Meets}
 use Rattle.verdict.proofs.Courses.{hop-nonzero, g-is}
 use Rattle.verdict.proofs.Fits.{along-sized, placed-sized}
 

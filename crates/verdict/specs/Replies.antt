@@ -11,6 +11,7 @@ use Rattle.job.specs.Refusals.{First}
 use Rattle.job.specs.Limits.{limits}
 use Rattle.verdict.specs.Rules.{Ahead, Even, SameCell, Meeting, Keeps, Sizes}
 use Rattle.verdict.specs.declared.Verdict.{Verdict}
+use Rattle.verdict.specs.declared.numbers.Answer.{Answer}
 use Rattle.verdict.specs.declared.Verdict.the-variants.{Accepted, Limit, Precedence, Hop, Cell, Link}
 
 -- 'lowest stream first': s is the first of m streams of which P does not hold
@@ -50,15 +51,16 @@ pub record Says (j : Job) (v : Verdict) : Type 0 where
   pub kept : Keeps j (turn v)
   pub claim : Claims j v
 
--- 'No.' and 'Returns besides'
-abbrev pub number : Verdict → ℕ
-number (Accepted z) = 0
-number (Limit r) = r
-number (Precedence s) = 9
-number (Hop s) = 10
-number (Cell c) = 11
-number (Link c) = 12
+-- 'No.'; 'the number is 0 for accepted'
+abbrev pub numberOf : Verdict → ℕ
+numberOf (Accepted z) = 0
+numberOf (Limit r) = r
+numberOf (Precedence s) = 9
+numberOf (Hop s) = 10
+numberOf (Cell c) = 11
+numberOf (Link c) = 12
 
+-- 'Returns besides': 'stream and f are 0 where the table lists none'. The points are records of their own in the reply, and no number stands for them
 abbrev pub streamOf : Verdict → ℕ
 streamOf (Accepted z) = 0
 streamOf (Limit r) = 0
@@ -74,3 +76,9 @@ hopsOf (Precedence s) = pos 0
 hopsOf (Hop s) = pos 0
 hopsOf (Cell c) = pos 0
 hopsOf (Link c) = c .hops
+
+-- what a verdict answers in numbers
+pub record Answers (v : Verdict) (r : Answer) : Type 0 where
+  pub number : r .number ≡ numberOf v
+  pub stream : r .stream ≡ streamOf v
+  pub hops : r .hops ≡ hopsOf v

@@ -12,7 +12,6 @@ use Rattle.verdict.specs.Mapping.{stream, along, H, S, g, hop, delay}
 use Rattle.verdict.specs.Rules.{Collide, SameCell, Meeting}
 use Rattle.verdict.specs.Replies.{Lowest, FirstPair}
 use Rattle.verdict.specs.declared.Clash.{Clash}
-use Rattle.verdict.specs.declared.walk.Course.{Course}
 use Rattle.verdict.specs.declared.walk.Met.{Met}
 use Rattle.verdict.specs.declared.walk.Met.the-variants as Met
 use Rattle.verdict.specs.declared.walk.Gap.{Gap}
@@ -23,15 +22,6 @@ use Rattle.verdict.specs.declared.rules.Crowd.{Crowd}
 use Rattle.verdict.specs.declared.rules.Crowd.the-variants as Crowd
 use Rattle.verdict.specs.declared.rules.Jam.{Jam}
 use Rattle.verdict.specs.declared.rules.Jam.the-variants as Jam
-
--- Hx and Sx as one vector
-abbrev pub placed : Job → List ℤ → List ℤ
-placed j x = H j x ∷ dotOf (entries (j .row0)) x ∷ dotOf (entries (j .row1)) x ∷ pos 0 ∷ []
-
--- w, e and g of a stream
-pub record Runs (j : Job) (s : ℕ) (c : Course) : Type 0 where
-  pub unit : entries (c .unit) ≡ delay j s ∷ (hop j s ++ (pos 0 ∷ []))
-  pub hops : c .g ≡ g j s
 
 -- the lowest stream that breaks P, or none
 abbrev pub Finds : (ℕ → Type 0) → ℕ → Broken → Type 0

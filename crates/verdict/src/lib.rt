@@ -1,5 +1,7 @@
 // The verdict on a job: accepted with its sizes, or the first broken rule with its stream and its first pair.
 pub mod bytes;
+pub mod course;
+pub mod numbers;
 mod rules;
 mod walk;
 
@@ -97,7 +99,7 @@ fn all_delays(j: Job) -> u64
     let mut s: u8 = 0;
     let mut sum: u64 = 0;
     while s < m {
-        let c = crate::walk::course_of(j, s);
+        let c = crate::course::course_of(j, s);
         let unit = c.unit;
         sum += space::divisor::size(unit.x0);
         s += 1;

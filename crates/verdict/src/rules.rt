@@ -112,7 +112,7 @@ fn is_even(j: Job, s: u8) -> bool
 {
     let t = job::stream_at(j, s);
     let d = t.d;
-    let v = crate::walk::placed(j, d);
+    let v = crate::course::placed(j, d);
     let g = space::divisor::gcd(space::divisor::size(v.x1), space::divisor::size(v.x2));
     if g == 0 {
         return true;
@@ -125,7 +125,7 @@ fn jam_of(j: Job, s: u8) -> Jam
     requires { ⌜ Acceptable j × (s < j .m) ⌝ }
     ensures { λ r. ⌜ Finds-jam j s r ⌝ }
 {
-    let c = crate::walk::course_of(j, s);
+    let c = crate::course::course_of(j, s);
     if c.g == 0 {
         return Jam::Nowhere;
     }

@@ -1,4 +1,5 @@
 // The walk over the differences of the box: which of them bring two points into one cell, or two tokens together.
+use crate::course::Course;
 use job::Job;
 use space::Vector;
 use space::bounds::Bounds;
@@ -13,15 +14,10 @@ ghost use Rattle.space.specs.Multiples.{NonZero};
 ghost use Rattle.space.specs.Boxes.{In, boxOf, placeOf};
 ghost use Rattle.job.specs.Record.{zeroVector};
 ghost use Rattle.job.specs.Limits.{Acceptable};
-ghost use Rattle.verdict.specs.Mapping.{box, Stationary, orOne};
+ghost use Rattle.verdict.specs.Mapping.{box, Stationary};
 ghost use Rattle.verdict.specs.Rules.{Collide, senders};
-ghost use Rattle.verdict.specs.Searches.{placed as placedOf, Runs, Still, MetAt, Meets, Finds-gap};
-
-// One hop of a stream, as (w, e), and how many hops make d.
-pub struct Course {
-    pub unit: Vector,
-    pub g: u64,
-}
+ghost use Rattle.verdict.specs.Courses.{Runs};
+ghost use Rattle.verdict.specs.Searches.{Still, MetAt, Meets, Finds-gap};
 
 // Whether two tokens meet, and how many hops apart.
 pub enum Met {
@@ -35,56 +31,12 @@ pub enum Gap {
     Nowhere,
 }
 
-// Hx and Sx, as one vector.
-pub fn placed(j: Job, x: Vector) -> Vector
-    requires { ⌜ Acceptable j × Sized difference (entries x) ⌝ }
-    ensures { λ r. ⌜ entries r ≡ placedOf j (entries x) ⌝ }
-{
-    let h = j.time;
-    let row0 = j.row0;
-    let row1 = j.row1;
-    Vector {
-        x0: space::dot(h, x),
-        x1: space::dot(row0, x),
-        x2: space::dot(row1, x),
-        x3: 0,
-    }
-}
-
-// g, or 1 where it is 0.
-fn or_one(g: u64) -> u64
-    ensures { λ r. ⌜ r ≡ orOne g ⌝ }
-{
-    if g == 0 { 1 } else { g }
-}
-
-// The course of stream s.
-pub fn course_of(j: Job, s: u8) -> Course
-    requires { ⌜ Acceptable j × (s < j .m) ⌝ }
-    ensures { λ r. ⌜ Runs j s r ⌝ }
-{
-    let t = job::stream_at(j, s);
-    let d = t.d;
-    let v = placed(j, d);
-    let g = space::divisor::gcd(space::divisor::size(v.x1), space::divisor::size(v.x2));
-    let n = or_one(g) as i64;
-    Course {
-        unit: Vector {
-            x0: v.x0 / n,
-            x1: v.x1 / n,
-            x2: v.x2 / n,
-            x3: 0,
-        },
-        g,
-    }
-}
-
 // Do two points y apart share cell and tick?
 pub fn is_still(j: Job, y: Vector) -> bool
     requires { ⌜ Acceptable j × Sized difference (entries y) ⌝ }
     ensures { λ r. ⌜ Tells (Still j (entries y)) r ⌝ }
 {
-    let v = placed(j, y);
+    let v = crate::course::placed(j, y);
     (v.x0 == 0) & ((v.x1 == 0) & (v.x2 == 0))
 }
 
@@ -94,7 +46,7 @@ pub fn meeting(j: Job, s: u8, c: Course, y: Vector) -> Met
     ensures { λ r. ⌜ MetAt j s (entries y) r ⌝ }
 {
     let unit = c.unit;
-    let Multiple::Times(f) = space::multiple::multiple_of(placed(j, y), unit) else {
+    let Multiple::Times(f) = space::multiple::multiple_of(crate::course::placed(j, y), unit) else {
         return Met::Apart;
     };
     let t = job::stream_at(j, s);

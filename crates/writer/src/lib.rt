@@ -7,7 +7,7 @@ ghost use Prim.Native.Nat.{_+_, _*_, _≤_};
 ghost use lib.ListN.{length, take};
 ghost use Rattle.job.specs.Limits.{Acceptable};
 ghost use Rattle.layout.specs.Layout.{Held, headerOf, boxBytes, streamsBytes, matrixBytes, streamBytes, vectorBytes, fileOf};
-ghost use Rattle.writer.specs.Writing.{Writes, totalFor, over};
+ghost use Rattle.writer.specs.Writing.{Writes, Answers, totalFor, over};
 ghost use Rattle.writer.specs.Putting.{Puts};
 
 // What writing answers: the total, a refusal by a limit, or 17 with the total that the buffer is shorter than.
@@ -15,6 +15,32 @@ pub enum Wrote {
     Total(usize),
     Refused(u8),
     Short(usize),
+}
+
+// The same in numbers: the number of refusal, 0 for a written file, and the total, 0 where the refusal returns nothing.
+pub struct Answer {
+    pub number: u8,
+    pub total: usize,
+}
+
+// What a reply answers.
+pub fn answer_of(w: Wrote) -> Answer
+    ensures { λ r. ⌜ Answers w r ⌝ }
+{
+    match w {
+        Wrote::Total(total) => Answer {
+            number: 0,
+            total: total,
+        },
+        Wrote::Refused(number) => Answer {
+            number: number,
+            total: 0,
+        },
+        Wrote::Short(total) => Answer {
+            number: 17,
+            total: total,
+        },
+    }
 }
 
 // Writes the job's file over the front of the buffer; a refusal leaves the buffer as it was.

@@ -7,10 +7,10 @@ use mir.Syntax.{w64}
 use mir.Val.{SFits}
 use borrow.Author.Needs.{needs}
 use Rattle.space.specs.Vectors.{entries, dotOf}
-use Rattle.space.specs.Boxes.{In, boxOf}
+use Rattle.space.specs.Boxes.{In, boxOf, cornerOf}
 use Rattle.space.proofs.Machine.{held, in-range, back}
 use Rattle.space.proofs.VectorLaws.{four}
-use Rattle.space.proofs.ExtremeLaws.{pick, leastCorner, least-corner-in, least-below}
+use Rattle.space.proofs.ExtremeLaws.{pick, least-corner-in, least-below}
 use Rattle.space.proofs.bounds.least_corner.Statement.{statement}
 use Rattle.space.proofs.bounds.least_corner.Tie as tie
 
@@ -30,8 +30,8 @@ chosen-requires-4 c κs = search needs
 of-fields : {r : ℤ} (h a b : ℤ) → SFits w64 r → SFits w64 h → SFits w64 a → SFits w64 b → r ≡ pick (held h) (held a) (held b) → held r ≡ pick h a b
 of-fields h a b f g k l e = back f ∙ (rw (back g, back k, back l) at e)
 
-are : (c : tie.After-chosen4) → _≡_ {A = List ℤ} (held (c .before .before .before .before .before .before .before .before .before .before .before .before .chosen .result) ∷ held (c .before .before .before .before .before .before .before .before .chosen2 .result) ∷ held (c .before .before .before .before .chosen3 .result) ∷ held (c .chosen4 .result) ∷ []) (leastCorner (entries (c .before .before .before .before .before .before .before .before .before .before .before .before .before .before .before .before .before .before .args .h)) (boxOf (c .before .before .before .before .before .before .before .before .before .before .before .before .before .before .before .before .before .before .args .b)))
-unfolding leastCorner
+are : (c : tie.After-chosen4) → _≡_ {A = List ℤ} (held (c .before .before .before .before .before .before .before .before .before .before .before .before .chosen .result) ∷ held (c .before .before .before .before .before .before .before .before .chosen2 .result) ∷ held (c .before .before .before .before .chosen3 .result) ∷ held (c .chosen4 .result) ∷ []) (cornerOf (entries (c .before .before .before .before .before .before .before .before .before .before .before .before .before .before .before .before .before .before .args .h)) (boxOf (c .before .before .before .before .before .before .before .before .before .before .before .before .before .before .before .before .before .before .args .b)))
+unfolding cornerOf
 are c =
     let s = c .before .before .before .before .before .before .before .before .before .before .before .before .before .before .before .before .before .before .args in
     let h = c .before .before .before .struct-told10 .given in

@@ -21,7 +21,7 @@ use Rattle.job.specs.declared.Job.{Job}
 use Rattle.job.specs.declared.Stream.{Stream}
 use Rattle.verdict.specs.Mapping.{along, H, g, Stationary}
 use Rattle.verdict.specs.Rules.{Even}
-use Rattle.verdict.specs.Searches.{placed}
+use Rattle.verdict.specs.Courses.{placed}
 use Rattle.verdict.proofs.Courses.{g-is, none-stationary, stationary-none}
 use Rattle.verdict.proofs.Fits.{along-sized}
 use Rattle.verdict.proofs.rules.is_even.Statement.{statement}

@@ -12,7 +12,7 @@ use Rattle.space.proofs.Machine.{held, back, in-range}
 use Rattle.space.proofs.VectorLaws.{sized-up}
 use Rattle.space.proofs.OrderLaws.{forward-nonzero}
 use Rattle.job.specs.declared.Stream.{Stream}
-use Rattle.verdict.specs.Searches.{placed}
+use Rattle.verdict.specs.Courses.{placed}
 use Rattle.job.proofs.Accepting.{stream-sound}
 use Rattle.verdict.proofs.Fits.{placed-sized, along-sized}
 use Rattle.verdict.proofs.Meetings.{tag-none, answers-as, unit-of, unit-sized, unit-nonzero, met, not-met, none-met}

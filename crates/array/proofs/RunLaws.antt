@@ -1,0 +1,97 @@
+-- Laws of a run: the places are cleared one after the other, a tick is its work and its storing, and a run is tick after tick.
+use mathlib.Core.Path.{_≡_, refl, sym, ap, subst, _∙_}
+use mathlib.Core.Bool.{Bool, true, false, _&&_}
+use mathlib.Core.List.{List, [], _∷_, _++_}
+use mathlib.Core.Option.{Option, none, some}
+use Prim.Native.Nat.{ℕ, zero, suc, _+_, _*_, _%_, _<_, _≤_}
+use native.Mathlib.Numerals.{add-one}
+use native.Mathlib.Omega.{arith}
+use lib.Dec.{eqb}
+use lib.ListN.{length, getD, set, drop, replicate, length-replicate, length-append, length-drop}
+use lib.Seq.{drop-cons, set-at}
+use borrow.Author.Tests.{eqb-true}
+use Rattle.space.proofs.Machine.{never}
+use Rattle.job.specs.declared.Job.{Job}
+use Rattle.bands.specs.Bands.{given}
+use Rattle.loops.specs.Tables.{points, entryFor}
+use Rattle.array.specs.declared.frame.Frame.{Frame}
+use Rattle.array.specs.Frames.{cells, tickOf, cellOf, w, room}
+use Rattle.array.specs.Ticks.{lastOf, works, pointAt, arrival, fresh, stored, Ticked, Ran, cleared}
+use Rattle.array.specs.Ticks.Ran.{ready, ticked}
+use Rattle.array.specs.Steps.{Tabled, Roomy, Points, workedOr, Stored}
+use Rattle.array.proofs.PointLaws.{last-only}
+
+-- ---- clearing
+one-more : (i a : ℕ) (ys : List ℕ) → replicate i a ++ (a ∷ ys) ≡ a ∷ (replicate i a ++ ys)
+one-more zero a ys = refl
+one-more (suc i) a ys = ap (λ (l : List ℕ). a ∷ l) (one-more i a ys)
+
+-- one more place is cleared
+pub clear-step : (l : List ℕ) (i : ℕ) → i < length l → set (cleared i l) i 0 ≡ cleared (i + 1) l
+clear-step l i h = rw (add-one, drop-cons l i 0 h) (set-at (replicate i 0) (getD l i 0) (drop (suc i) l) 0 i (length-replicate i 0) ∙ one-more i 0 (drop (suc i) l))
+
+pub clear-size : (l : List ℕ) (i : ℕ) → i ≤ length l → length (cleared i l) ≡ length l
+clear-size l i h = rw (length-append, length-replicate, length-drop) (omega arith)
+
+-- ---- one tick
+both : (a b : Bool) → a && b ≡ true → (a ≡ true) × (b ≡ true)
+both true true e = (refl, refl)
+both true false e = never (sym e)
+both false b e = never (sym e)
+
+module _ {j : Job} {input : List ℕ} {t : ℕ} {places values after : List ℕ} (p : Points j input t places (points j) values after) where
+  -- what a cell stores is the value of its point in the table after the work, or the arrival
+  stores-fresh : (s x : ℕ) → s < j .m → workedOr j t s after (points j) x (arrival j t places s x) ≡ stored j input t places s x
+  unfolding stored
+  stores-fresh s x ls = by (pointAt j t x) (last-only (works j t x) (points j))
+    where
+      by : (o : Option ℕ) → ((k : ℕ) → o ≡ some k → (k < points j) × (works j t x k ≡ true)) → given o (arrival j t places s x) (λ (k : ℕ). entryFor j after s k) ≡ given o (arrival j t places s x) (λ (k : ℕ). fresh j input t places s x k)
+      by none h = refl
+      by (some k) h =
+          let q = h k refl in
+          let e = both (eqb (tickOf j k) t) (eqb (cellOf j k) x) (q .1) in
+          p .worked s k ls (q .0) (eqb-true (tickOf j k) t (e .0)) ∙ ap (λ (y : ℕ). fresh j input t places s y k) (eqb-true (cellOf j k) x (e .1))
+
+  -- the work and the storing are the tick
+  pub tick-whole : {places′ : List ℕ} → Stored j t after (j .m) places places′ → Ticked j input t places values places′ after
+  tick-whole d = record {
+    length-places = d .size;
+    length-values = p .size;
+    worked = λ s k ls lk e. p .worked s k ls lk e;
+    spared = λ s k ls lk ne. p .spared s k ls lk (λ l e. ne e);
+    stores = λ s x ls lx. d .stores s x ls lx ∙ stores-fresh s x ls;
+    keeps = d .keeps;
+    beyond = d .beyond;
+  }
+
+-- ---- tick after tick
+-- the tables of a run in its course
+module _ (j : Job) (f : Frame) (input places₀ values₀ : List ℕ) where
+  pub record Running (ticks : ℕ) (places values : List ℕ) (t : ℕ) : Type 0 where
+    pub low : t ≤ ticks
+    pub size : length places ≡ length places₀
+    pub tabled : Tabled j f values
+    pub ran : Ran j input places₀ values₀ t places values
+
+  pub run-start : (ticks : ℕ) → Tabled j f values₀ → Running ticks places₀ values₀ 0
+  run-start ticks T = record { low = omega arith; size = refl; tabled = T; ran = ready }
+
+  pub run-step : {ticks t : ℕ} {places values places′ values′ : List ℕ} → Running ticks places values t → t < ticks → Ticked j input t places values places′ values′ → Running ticks places′ values′ (t + 1)
+  run-step d h k = record {
+    low = omega arith;
+    size = k .length-places ∙ d .size;
+    tabled = record { runnable = d .tabled .runnable; framed = d .tabled .framed; size = k .length-values ∙ d .tabled .size };
+    ran = rw add-one (ticked (d .ran) k);
+  }
+
+  pub run-end : {ticks t : ℕ} {places values : List ℕ} → Running ticks places values t → ticks ≤ t → Ran j input places₀ values₀ ticks places values
+  run-end {ticks} {t} d h = let e : t ≡ ticks = omega (arith, d .low) in rw e at (d .ran)
+
+-- places of the same length suffice as well
+pub roomy-as : {j : Job} {before after : List ℕ} → Roomy j before → length after ≡ length before → Roomy j after
+roomy-as r e = record { enough = omega (arith, r .enough, e) }
+
+-- a run from the same places, of as many ticks
+pub ran-as : {j : Job} {input p q values places′ values′ : List ℕ} {n m : ℕ} → p ≡ q → n ≡ m → Ran j input p values n places′ values′ → Ran j input q values m places′ values′
+ran-as {j} {input} {p} {q} {values} {places′} {values′} {n} {m} e d r =
+    subst (λ (l : List ℕ). Ran j input l values m places′ values′) e (subst (λ (k : ℕ). Ran j input p values k places′ values′) d r)

@@ -1,0 +1,60 @@
+// The point worked in a tick at a cell.
+use crate::frame::Frame;
+use job::Job;
+use space::Vector;
+use space::bounds::Found;
+use verdict::Verdict;
+ghost use mathlib.Core.Path.{_≡_};
+ghost use Rattle.space.specs.Boxes.{foundOf};
+ghost use Rattle.job.specs.Limits.{Acceptable};
+ghost use Rattle.array.specs.Ticks.{pointAt};
+ghost use Rattle.array.specs.Lookups.{Looks, LooksOf};
+ghost use Rattle.array.specs.Steps.{Framed};
+
+// The point, or that none is worked there and then, or the verdict's refusal.
+pub enum Worked {
+    At(Vector),
+    Nowhere,
+    Refused(Verdict),
+}
+
+// The point that an accepted array works in tick t at cell x.
+pub fn point_at(j: Job, t: u64, x: u64) -> Worked
+    ensures { λ r. ⌜ Looks j t x r ⌝ }
+{
+    let v = verdict::verdict_of(j);
+    let Verdict::Accepted(_size) = v else {
+        return Worked::Refused(v);
+    };
+    let found = place_at(j, crate::frame::frame_of(j), t, x);
+    match found {
+        Found::At(k) => Worked::At(space::bounds::point(j.bounds, k)),
+        Found::Nowhere => Worked::Nowhere,
+    }
+}
+
+// The same of the job that the bytes are.
+pub fn point_at_bytes(s: &[u8], t: u64, x: u64) -> Worked
+    ensures { λ r. ⌜ LooksOf (now (s .entry)) t x r ⌝ }
+{
+    let read = reader::read(s);
+    match read {
+        reader::Reply::Refused(number) => Worked::Refused(Verdict::Limit(number)),
+        reader::Reply::Job(j) => point_at(j, t, x),
+    }
+}
+
+// The place of that point: the last that passes both tests, from the end.
+fn place_at(j: Job, f: Frame, t: u64, x: u64) -> Found
+    requires { ⌜ Acceptable j × Framed j f ⌝ }
+    ensures { λ r. ⌜ foundOf r ≡ pointAt j t x ⌝ }
+{
+    let mut k = f.points;
+    while 0 < k {
+        k -= 1;
+        if (crate::frame::tick_at(j, f, k) == t) & (crate::frame::cell_at(j, f, k) == x) {
+            return Found::At(k);
+        }
+    }
+    Found::Nowhere
+}

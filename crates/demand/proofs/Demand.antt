@@ -1,0 +1,80 @@
+-- DEMAND 3: on an accepted job the array computes what the loop computes, every value that comes in at a point is the loop's, and each point is worked exactly once.
+use mathlib.Core.Path.{_≡_, sym, ap, _∙_}
+use mathlib.Core.List.{List, []}
+use mathlib.Core.Option.{some}
+use Prim.Native.Nat.{ℕ, _*_, _/_, _%_, _<_}
+use native.Mathlib.Nat.{div-add-mod', mod-lt, div-lt-iff-lt-mul}
+use native.Mathlib.Omega.{arith}
+use lib.ListN.{length, getD}
+use lib.Seq.{ext-getD}
+use Rattle.space.proofs.BoxLaws.{solid-count}
+use Rattle.job.specs.declared.Job.{Job}
+use Rattle.verdict.specs.Mapping.{box}
+use Rattle.verdict.specs.Replies.{Says}
+use Rattle.verdict.specs.declared.Size.{Size}
+use Rattle.verdict.specs.declared.Verdict.the-variants.{Accepted}
+use Rattle.loops.specs.Tables.{points, entryFor}
+use Rattle.loops.specs.Loops.{Looped, incoming as loopIncoming}
+use Rattle.array.specs.Frames.{cells, ticks, tickOf, cellOf, held}
+use Rattle.array.specs.Ticks.{pointAt, Ran, incoming as arrayIncoming}
+use Rattle.array.proofs.FrameLaws.{tick-below, cell-below}
+use Rattle.demand.proofs.Machine.{incoming, taken}
+use Rattle.demand.proofs.Mapped as Core
+use Rattle.demand.proofs.Rules.{Obeys, rules-kept}
+use Rattle.demand.proofs.Scans.{point-only}
+use Rattle.demand.proofs.Instance.{machine, nest, job-mapped}
+use Rattle.demand.proofs.Runs.{incoming-is, Steps, steps-of, run-of, taken-is, loop-solves, ran-size, ran-through}
+
+-- two tables of one size with the same entries are the same
+same-table : (j : Job) → Obeys j → (v u : List ℕ) → length v ≡ j .m * points j → length u ≡ j .m * points j → ((s k : ℕ) → s < j .m → k < points j → entryFor j v s k ≡ entryFor j u s k) → v ≡ u
+same-table j rules v u ev eu same = ext-getD 0 v u (ev ∙ sym eu) at
+  where
+    at : (i : ℕ) → i < length v → getD v i 0 ≡ getD u i 0
+    at i h =
+        let n = solid-count (box j) (rules .limits .boxed .solid) in
+        let l : i < j .m * points j = omega arith in
+        rw div-add-mod' at (same (i / points j) (i % points j) (div-lt-iff-lt-mul n .1 l) (mod-lt i n))
+
+module _ (j : Job) (z : Size) (says : Says j (Accepted z)) where
+  -- the rules that the verdict found kept
+  rules : Obeys j
+  rules = rules-kept j z says
+
+  -- what the array leaves in the value table is what the loop leaves there
+  pub demand-3 : (input places values places′ values′ looped : List ℕ) → length values ≡ j .m * points j → Ran j input places values (ticks j) places′ values′ → Looped j input looped → values′ ≡ looped
+  demand-3 input places values places′ values′ looped size ran loop =
+      same-table j rules values′ looped (ran-size j input places values ran ∙ size) (loop .size) entry
+    where
+      steps : Steps j input (ticks j) places′ values′
+      steps = steps-of j input places values ran
+
+      entry : (s k : ℕ) → s < j .m → k < points j → entryFor j values′ s k ≡ entryFor j looped s k
+      entry s k ls lk =
+          ap (λ (v : List ℕ). entryFor j v s k) (sym (steps .last-table))
+          ∙ Core.array-is-loop (machine j input) (nest j input) (job-mapped j rules input) (run-of j input steps) (entryFor j looped) (loop-solves j input looped loop) s k ls lk (tick-below j (rules .limits) k lk)
+
+  -- what comes in at the point at place k, in its tick at its cell, from the places as the ticks before leave them, is what the loop takes in there
+  pub demand-3-incoming : (input places values looped : List ℕ) → Looped j input looped → (s k : ℕ) → s < j .m → k < points j → (places′ values′ : List ℕ) → Ran j input places values (tickOf j k) places′ values′ → arrayIncoming j input (tickOf j k) places′ s (cellOf j k) k ≡ loopIncoming j input looped s k
+  demand-3-incoming input places values looped loop s k ls lk places′ values′ ran =
+      incoming-is j input (tickOf j k) places′ s (cellOf j k) k ∙ rw (← steps .last-room) there ∙ sym (taken-is j input looped s k)
+    where
+      steps : Steps j input (tickOf j k) places′ values′
+      steps = steps-of j input places values ran
+
+      there : incoming (machine j input) (tickOf j k) (held j (steps .rooms (tickOf j k))) s (cellOf j k) k ≡ taken (machine j input) (nest j input) (entryFor j looped) s k
+      there =
+          Core.incoming-is-loop (machine j input) (nest j input) (job-mapped j rules input) (run-of j input steps) (entryFor j looped) (loop-solves j input looped loop) s k ls (lk, omega arith)
+
+  -- and the run comes to those places, before the tick of every point
+  pub demand-3-reached : (input places values places′ values′ : List ℕ) → Ran j input places values (ticks j) places′ values′ → (k : ℕ) → k < points j → (p v : List ℕ) × Ran j input places values (tickOf j k) p v
+  demand-3-reached input places values places′ values′ ran k lk = let h = tick-below j (rules .limits) k lk in ran-through j input places values (tickOf j k) (ticks j) places′ values′ (omega arith) ran
+
+  -- each point is worked within the run, in one tick at one cell
+  pub worked-once : (k : ℕ) → k < points j → (tickOf j k < ticks j) × (cellOf j k < cells j) × (pointAt j (tickOf j k) (cellOf j k) ≡ some k) × ((t x : ℕ) → pointAt j t x ≡ some k → (t ≡ tickOf j k) × (x ≡ cellOf j k))
+  worked-once k lk =
+      let h = Core.worked-once (machine j []) (nest j []) (job-mapped j rules []) k lk in
+      (tick-below j (rules .limits) k lk, cell-below j (rules .limits) k lk, h .0, h .1)
+
+  -- and nothing else is worked
+  pub worked-all : (t x k : ℕ) → pointAt j t x ≡ some k → k < points j
+  worked-all t x k e = point-only j t x k e .0

@@ -1,0 +1,13 @@
+pub mod Machine
+pub mod History
+pub mod Ride
+pub mod Mapped
+pub mod Straight
+pub mod Lines
+pub mod Rules
+pub mod Scans
+pub mod Geometry
+pub mod Instance
+pub mod Runs
+pub mod Demand
+pub mod Table

@@ -1,0 +1,4 @@
+pub mod Ruling
+pub mod LoopLaws
+pub mod LoopUnique
+pub mod RowLaws

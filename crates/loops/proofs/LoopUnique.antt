@@ -1,0 +1,100 @@
+-- The loop has one result: at most one table keeps the loop's equation, and at most one reply with one table is right.
+use mathlib.Core.Path.{_≡_, refl, sym, ap, subst, _∙_}
+use mathlib.Core.Logic.{inl, inr}
+use mathlib.Core.List.{List}
+use mathlib.Core.Option.{Option, none, some}
+use Prim.Native.Nat.{ℕ, zero, suc, _*_, _/_, _%_, _<_, _≤_}
+use native.Mathlib.Nat.{div-add-mod', mod-lt, div-lt-iff-lt-mul}
+use native.Mathlib.Decide.{ℕ-discrete}
+use native.Mathlib.Omega.{arith}
+use lib.ListN.{length, getD}
+use lib.Seq.{ext-getD}
+use Rattle.space.proofs.BoxLaws.{solid-count}
+use Rattle.job.specs.declared.Job.{Job}
+use Rattle.job.specs.Refusals.{First}
+use Rattle.job.specs.Limits.{Acceptable}
+use Rattle.job.proofs.Refusing.{first-unique, Passes, first-passes}
+use Rattle.reader.specs.declared.Reply.the-variants as Read
+use Rattle.reader.proofs.Theorems.{reads-unique}
+use Rattle.verdict.specs.Mapping.{box}
+use Rattle.loops.specs.Tables.{points, entryFor}
+use Rattle.loops.specs.Loops.{previous, fromPrevious, incoming, Looped, loopChecks, Loops}
+use Rattle.loops.specs.LoopBytes.{LoopsOf}
+use Rattle.loops.specs.declared.looped.Reply.{Reply}
+use Rattle.loops.specs.declared.looped.Reply.the-variants.{Points, Refused}
+use Rattle.loops.proofs.LoopLaws.{previous-before, same-work}
+
+module _ (j : Job) (a : Acceptable j) (input v w : List ℕ) where
+  -- what comes in is the same where the columns before are
+  pub incoming-from : (u k : ℕ) → u < j .m → k < points j → ((q : ℕ) → q < k → entryFor j v u q ≡ entryFor j w u q) → incoming j input v u k ≡ incoming j input w u k
+  unfolding incoming
+  incoming-from u k lu lk h = by (previous j u k) refl
+    where
+      by : (o : Option ℕ) → previous j u k ≡ o → fromPrevious o (entryFor j v u) (entryFor j input u k) ≡ fromPrevious o (entryFor j w u) (entryFor j input u k)
+      by none e = refl
+      by (some q) e = h q (previous-before j a u k q lu lk e)
+
+  module _ (p : Looped j input v) (q : Looped j input w) where
+    -- one column more
+    column-same : (k s : ℕ) → s < j .m → k < points j → ((u r : ℕ) → u < j .m → r < k → entryFor j v u r ≡ entryFor j w u r) → entryFor j v s k ≡ entryFor j w s k
+    column-same k s ls lk h =
+        p .each s k ls lk
+        ∙ same-work j a s ls (λ (u : ℕ). incoming j input v u k) (λ (u : ℕ). incoming j input w u k) (λ u lu. incoming-from u k lu lk (λ r lr. h u r lu lr))
+        ∙ sym (q .each s k ls lk)
+
+    one-more : (k s r : ℕ) → s < j .m → r < suc k → k < points j → ((u r : ℕ) → u < j .m → r < k → entryFor j v u r ≡ entryFor j w u r) → Dec (r ≡ k) → entryFor j v s r ≡ entryFor j w s r
+    one-more k s r ls lr lk h (yes e) = rw e (column-same k s ls lk h)
+    one-more k s r ls lr lk h (no ne) = h s r ls (omega arith)
+
+    -- the columns before k are the same
+    columns-same : (k : ℕ) → k ≤ points j → (s r : ℕ) → s < j .m → r < k → entryFor j v s r ≡ entryFor j w s r
+    columns-same zero lk s r ls lr = absurd (omega arith)
+    columns-same (suc k) lk s r ls lr = one-more k s r ls lr lk (columns-same k (less lk)) (ℕ-discrete r k)
+      where
+        less : {a b : ℕ} → suc a ≤ b → a ≤ b
+        less h = omega arith
+
+    -- at most one table keeps the loop's equation
+    pub looped-unique : v ≡ w
+    looped-unique = ext-getD 0 v w (p .size ∙ sym (q .size)) at
+      where
+        at : (i : ℕ) → i < length v → getD v i 0 ≡ getD w i 0
+        at i h =
+            let n = solid-count (box j) (a .boxed .solid) in
+            let l : i < j .m * points j = omega (arith, p .size) in
+            rw div-add-mod' at (columns-same (points j) (omega arith) (i / points j) (i % points j) (div-lt-iff-lt-mul n .1 l) (mod-lt i n))
+
+-- a job whose tables are taken is acceptable
+taken : (j : Job) (input values : List ℕ) → First (loopChecks j input values) 0 → Acceptable j
+taken j input values f = by (first-passes (loopChecks j input values) ((λ e. omega arith), ((λ e. omega arith), ((λ e. omega arith), ((λ e. omega arith), ((λ e. omega arith), tt))))) f)
+  where
+    by : Passes (loopChecks j input values) → Acceptable j
+    by p = record { shaped = p .0; boxed = p .1 .0; sound = p .1 .1 .0; rowed = p .1 .1 .1 .0 }
+
+-- at most one reply, with one table, is right
+pub loops-unique : (j : Job) (input before after after′ : List ℕ) (r r′ : Reply) → Loops j input before after r → Loops j input before after′ r′ → (r ≡ r′) × (after ≡ after′)
+loops-unique j input before after after′ (Points n) (Points n′) p q =
+    (ap Points (p .1 ∙ sym (q .1)), looped-unique j (taken j input before (p .0)) input after after′ (p .2) (q .2))
+loops-unique j input before after after′ (Points n) (Refused r′) p q = absurd (q .1 (first-unique (loopChecks j input before) r′ 0 (q .0) (p .0)))
+loops-unique j input before after after′ (Refused r) (Points n′) p q = absurd (p .1 (first-unique (loopChecks j input before) r 0 (p .0) (q .0)))
+loops-unique j input before after after′ (Refused r) (Refused r′) p q =
+    (ap Refused (first-unique (loopChecks j input before) r r′ (p .0) (q .0)), p .2 ∙ sym (q .2))
+
+-- the same of bytes
+pub loops-of-unique : (s input before after after′ : List ℕ) (r r′ : Reply) → LoopsOf s input before after r → LoopsOf s input before after′ r′ → (r ≡ r′) × (after ≡ after′)
+loops-of-unique s input before after after′ r r′ (inl p) (inl q) =
+    let e = reads-unique s (Read.Refused (p .0)) (Read.Refused (q .0)) (p .1) (q .1) in
+    let n : p .0 ≡ q .0 = cc in
+    (p .2 ∙ ap Refused n ∙ sym (q .2), p .3 ∙ sym (q .3))
+loops-of-unique s input before after after′ r r′ (inl p) (inr q) =
+    let e = reads-unique s (Read.Refused (p .0)) (Read.Job (q .0)) (p .1) (q .1) in
+    let z : _≡_ {A = ℕ} 0 1 = cc in
+    absurd (omega arith)
+loops-of-unique s input before after after′ r r′ (inr p) (inl q) =
+    let e = reads-unique s (Read.Job (p .0)) (Read.Refused (q .0)) (p .1) (q .1) in
+    let z : _≡_ {A = ℕ} 0 1 = cc in
+    absurd (omega arith)
+loops-of-unique s input before after after′ r r′ (inr p) (inr q) =
+    let e = reads-unique s (Read.Job (p .0)) (Read.Job (q .0)) (p .1) (q .1) in
+    let same : p .0 ≡ q .0 = cc in
+    loops-unique (p .0) input before after after′ r r′ (p .2) (subst (λ (j : Job). Loops j input before after′ r′) (sym same) (q .2))

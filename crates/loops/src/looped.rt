@@ -1,0 +1,131 @@
+// The loop: points in box order.
+use job::Job;
+use space::bounds::Found;
+ghost use mathlib.Core.Path.{_≡_};
+ghost use Prim.Native.Nat.{ℕ, _+_, _*_, _<_, _≤_};
+ghost use lib.ListN.{getD};
+ghost use Rattle.space.specs.Boxes.{foundOf};
+ghost use Rattle.job.specs.Limits.{Acceptable};
+ghost use Rattle.loops.specs.Tables.{points as pointsOf};
+ghost use Rattle.loops.specs.Loops.{previous, incoming, Looped, Loops};
+ghost use Rattle.loops.specs.LoopBytes.{LoopsOf};
+ghost use Rattle.loops.specs.Steps.{Ready, Column};
+
+// What the loop answers: the point count, or the number of refusal.
+pub enum Reply {
+    Points(u64),
+    Refused(u8),
+}
+
+// The loop over the value table, with the input for the points that have no point before them.
+pub fn loop_of(j: Job, input: &[u32], values: &mut [u32]) -> Reply
+    ensures { λ r. ⌜ Loops j (now (input .entry)) (now (values .entry)) (now (values .exit)) r ⌝ }
+{
+    let number = job::limits::number(j);
+    if number != 0 {
+        return Reply::Refused(number);
+    }
+    let points = space::bounds::count(j.bounds);
+    let size = place_in_table(j.m, points, 0);
+    if input.len() != size {
+        return Reply::Refused(13);
+    }
+    if values.len() != size {
+        return Reply::Refused(13);
+    }
+    fill(j, input, &mut values[..], points);
+    Reply::Points(points)
+}
+
+// The loop of the job that the bytes are.
+pub fn loop_of_bytes(s: &[u8], input: &[u32], values: &mut [u32]) -> Reply
+    ensures { λ r. ⌜ LoopsOf (now (s .entry)) (now (input .entry)) (now (values .entry)) (now (values .exit)) r ⌝ }
+{
+    let read = reader::read(s);
+    match read {
+        reader::Reply::Refused(number) => Reply::Refused(number),
+        reader::Reply::Job(j) => loop_of(j, input, &mut values[..]),
+    }
+}
+
+// Where a table of so many points holds the entry for stream s and the point at place k.
+pub fn place_in_table(s: u8, points: u64, k: u64) -> usize
+    requires { ⌜ (s ≤ 4) × (points ≤ 1024) × (k ≤ 1024) ⌝ }
+    ensures few { λ r. ⌜ r ≤ 5120 ⌝ }
+    ensures is { λ r. ⌜ r ≡ s * points + k ⌝ }
+{
+    ((s as u64) * points + k) as usize
+}
+
+// The place of the point before the one at place k, on stream s.
+pub fn previous_at(j: Job, s: u8, k: u64) -> Found
+    requires { ⌜ Acceptable j × (s < j .m) × (k < pointsOf j) ⌝ }
+    ensures { λ r. ⌜ foundOf r ≡ previous j s k ⌝ }
+{
+    let t = job::stream_at(j, s);
+    space::bounds::back(j.bounds, t.d, k)
+}
+
+// The incoming value of stream s at the point at place k.
+fn incoming_at(j: Job, input: &[u32], values: &[u32], points: u64, s: u8, k: u64) -> u32
+    requires { ⌜ Ready j (now input) points × Ready j (now values) points × (s < j .m) × (k < points) ⌝ }
+    ensures { λ r. ⌜ r ≡ incoming j (now (input .entry)) (now (values .entry)) s k ⌝ }
+{
+    let found = previous_at(j, s, k);
+    match found {
+        Found::At(q) => {
+            let i = place_in_table(s, points, q);
+            values[i]
+        }
+        Found::Nowhere => {
+            let i = place_in_table(s, points, k);
+            input[i]
+        }
+    }
+}
+
+// The incoming values of all streams at the point at place k.
+fn incoming_all(j: Job, input: &[u32], values: &[u32], points: u64, k: u64) -> [u32; 4]
+    requires { ⌜ Ready j (now input) points × Ready j (now values) points × (k < points) ⌝ }
+    ensures { λ r. ⌜ ((s : ℕ) → s < j .m → getD r s 0 ≡ incoming j (now (input .entry)) (now (values .entry)) s k) ⌝ }
+{
+    let m = j.m;
+    let mut got = [0u32; 4];
+    let mut s: u8 = 0;
+    while s < m {
+        let v = incoming_at(j, input, values, points, s, k);
+        let i = s as usize;
+        got[i] = v;
+        s += 1;
+    }
+    got
+}
+
+// The work at the point at place k, from what came in there.
+pub fn put_column(j: Job, values: &mut [u32], points: u64, k: u64, got: [u32; 4])
+    requires { ⌜ Ready j (now values) points × (k < points) ⌝ }
+    ensures { λ _. ⌜ Column j k got (now (values .entry)) (j .m) (now (values .exit)) ⌝ }
+{
+    let m = j.m;
+    let mut s: u8 = 0;
+    while s < m {
+        let t = job::stream_at(j, s);
+        let v = crate::cell::new_value(t, s as usize, got);
+        let i = place_in_table(s, points, k);
+        values[i] = v;
+        s += 1;
+    }
+}
+
+// The work at every point, in box order.
+fn fill(j: Job, input: &[u32], values: &mut [u32], points: u64)
+    requires { ⌜ Ready j (now input) points × Ready j (now values) points ⌝ }
+    ensures { λ _. ⌜ Looped j (now (input .entry)) (now (values .exit)) ⌝ }
+{
+    let mut k: u64 = 0;
+    while k < points {
+        let got = incoming_all(j, input, &values[..], points, k);
+        put_column(j, &mut values[..], points, k, got);
+        k += 1;
+    }
+}
