@@ -1,7 +1,7 @@
 -- Laws of the frame: every point has its tick below the tick count and its cell in the rectangle, and the sizes are those of the verdict.
 use mathlib.Core.Path.{_≡_, refl, sym, ap, ap₂, subst, _∙_}
-use mathlib.Core.List.{List, [], _∷_}
-use Prim.Native.Nat.{ℕ, suc, _+_, _*_, _<_, _≤_}
+use mathlib.Core.List.{List}
+use Prim.Native.Nat.{ℕ, _+_, _*_, _<_, _≤_}
 use native.Mathlib.Nat.{mul-le-mul, mul-one, add-zero, le-trans, le-of-eq}
 use native.Mathlib.Omega.{arith}
 use lib.ListN.{length}
@@ -9,7 +9,7 @@ use lib.IntN.{ℤ, pos, _+ℤ_, _-ℤ_}
 use lib.Signed.{_≤ℤ_}
 use Rattle.space.specs.Numbers.{Size, limit, entry, coordinate, up, steps}
 use Rattle.space.specs.Vectors.{entries, dotOf, Sized}
-use Rattle.space.specs.Boxes.{Box, In, Solid, side, across, countOf, placeOf, pointOf, leastOf, greatestOf, Least, Greatest}
+use Rattle.space.specs.Boxes.{Box, In, Solid, across, countOf, placeOf, pointOf, leastOf, greatestOf, Least, Greatest}
 use Rattle.space.proofs.Parts.{int, sum, difference}
 use Rattle.space.proofs.Ints.{size-up}
 use Rattle.space.proofs.Machine.{held, as-held}
@@ -21,7 +21,7 @@ use Rattle.job.specs.Limits.{Acceptable}
 use Rattle.verdict.specs.Mapping.{box, H, S, delays}
 use Rattle.verdict.specs.Rules.{Span, Sizes}
 use Rattle.verdict.specs.declared.Size.{Size as Counts}
-use Rattle.verdict.proofs.Fits.{solid, time-sized, row0-sized, row1-sized, low-sized, high-sized}
+use Rattle.verdict.proofs.Fits.{solid, row0-sized, row1-sized, low-sized, high-sized}
 use Rattle.verdict.proofs.SizeLaws.{greatest-size}
 use Rattle.loops.specs.Tables.{points}
 use Rattle.array.specs.Frames.{reach, rectangle, cells, clock, ticks, tickOf, cellOf, room}

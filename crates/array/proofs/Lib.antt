@@ -6,3 +6,5 @@ pub mod StoreLaws
 pub mod PointLaws
 pub mod RunLaws
 pub mod ReplyLaws
+pub mod UniqueTicks
+pub mod UniqueReplies

@@ -1,26 +1,22 @@
 -- Laws of the room: the w of a stream is at least 1, the bands stand one after the other in the room, and what a band holds is what the room holds there.
-use mathlib.Core.Path.{_≡_, refl, sym, ap, ap₂, subst, _∙_}
-use mathlib.Core.List.{List, _++_}
-use Prim.Native.Nat.{ℕ, zero, suc, _+_, _*_, _/_, _%_, _<_, _≤_, _∣_}
-use native.Mathlib.Nat.{le-refl, le-trans, le-of-eq, mul-add, mul-one, mul-le-mul-left, div-one, le-of-dvd, le-div-iff-mul-le, mod-lt}
+use mathlib.Core.Path.{_≡_, sym, _∙_}
+use mathlib.Core.List.{List}
+use Prim.Native.Nat.{ℕ, zero, suc, _+_, _*_, _<_, _≤_, _∣_}
+use native.Mathlib.Nat.{le-refl, le-trans, le-of-eq, mul-add, mul-one, mul-le-mul-left, div-one, le-of-dvd, le-div-iff-mul-le}
 use native.Mathlib.Decide.{ℕ-discrete}
 use native.Mathlib.Omega.{arith}
-use lib.Arith.{digits-lt}
-use lib.ListN.{length, getD, take, drop}
+use lib.ListN.{getD, take, drop}
 use lib.Seq.{getD-take, getD-drop}
 use lib.IntN.{ℤ, pos, negsuc, natAbs}
 use lib.Signed.{_≤ℤ_, quotZ}
 use Rattle.space.specs.Numbers.{up}
 use Rattle.space.proofs.Parts.{le-parts}
 use Rattle.job.specs.declared.Job.{Job}
-use Rattle.job.specs.Limits.{Acceptable}
-use Rattle.verdict.specs.Mapping.{H, along, g, orOne, delay, delays}
+use Rattle.verdict.specs.Mapping.{H, along, g, orOne, delays}
 use Rattle.verdict.specs.Rules.{Ahead, Even}
 use Rattle.verdict.proofs.Courses.{stationary-none}
 use Rattle.verdict.proofs.SizeLaws.{delays-next}
-use Rattle.bands.specs.Bands.{at}
-use Rattle.loops.proofs.LoopLaws.{few-streams}
-use Rattle.array.specs.Frames.{cells, w, from, room, held}
+use Rattle.array.specs.Frames.{cells, w, from, room}
 use Rattle.array.specs.Steps.{Runnable}
 
 -- ---- w

@@ -1,9 +1,9 @@
 -- Laws of a run: the places are cleared one after the other, a tick is its work and its storing, and a run is tick after tick.
 use mathlib.Core.Path.{_≡_, refl, sym, ap, subst, _∙_}
 use mathlib.Core.Bool.{Bool, true, false, _&&_}
-use mathlib.Core.List.{List, [], _∷_, _++_}
+use mathlib.Core.List.{List, _∷_, _++_}
 use mathlib.Core.Option.{Option, none, some}
-use Prim.Native.Nat.{ℕ, zero, suc, _+_, _*_, _%_, _<_, _≤_}
+use Prim.Native.Nat.{ℕ, zero, suc, _+_, _<_, _≤_}
 use native.Mathlib.Numerals.{add-one}
 use native.Mathlib.Omega.{arith}
 use lib.Dec.{eqb}
@@ -15,8 +15,8 @@ use Rattle.job.specs.declared.Job.{Job}
 use Rattle.bands.specs.Bands.{given}
 use Rattle.loops.specs.Tables.{points, entryFor}
 use Rattle.array.specs.declared.frame.Frame.{Frame}
-use Rattle.array.specs.Frames.{cells, tickOf, cellOf, w, room}
-use Rattle.array.specs.Ticks.{lastOf, works, pointAt, arrival, fresh, stored, Ticked, Ran, cleared}
+use Rattle.array.specs.Frames.{tickOf, cellOf}
+use Rattle.array.specs.Ticks.{works, pointAt, arrival, fresh, stored, Ticked, Ran, cleared}
 use Rattle.array.specs.Ticks.Ran.{ready, ticked}
 use Rattle.array.specs.Steps.{Tabled, Roomy, Points, workedOr, Stored}
 use Rattle.array.proofs.PointLaws.{last-only}

@@ -2,8 +2,8 @@
 use mathlib.Core.Path.{_≡_, refl, sym, ap, ap₂, subst, _∙_}
 use mathlib.Core.Bool.{Bool, true, false, cond}
 use mathlib.Core.List.{List, _++_}
-use mathlib.Core.Option.{Option, none, some}
-use Prim.Native.Nat.{ℕ, zero, suc, _+_, _*_, _-_, _%_, _<_, _≤_}
+use mathlib.Core.Option.{Option, some}
+use Prim.Native.Nat.{ℕ, suc, _+_, _*_, _-_, _%_, _<_, _≤_}
 use native.Mathlib.Nat.{mod-lt, add-sub-cancel-left}
 use native.Mathlib.Numerals.{add-one}
 use native.Mathlib.Decide.{ℕ-discrete}
@@ -12,12 +12,9 @@ use lib.Arith.{digits-lt}
 use lib.ListN.{length, getD, set, take, drop, length-append, length-drop, length-set}
 use lib.Seq.{length-take-le, take-at, drop-at, drop-drop, getD-take, getD-set-same, getD-set-other}
 use borrow.Author.Tests.{eq-eqb, ne-eqb}
-use Rattle.space.specs.Boxes.{Box, Solid, countOf, backOf}
-use Rattle.space.proofs.BackLaws.{back-below}
+use Rattle.space.specs.Boxes.{Box, countOf}
 use Rattle.job.specs.declared.Job.{Job}
-use Rattle.job.specs.Limits.{Acceptable}
-use Rattle.verdict.specs.Mapping.{hop, delays}
-use Rattle.bands.specs.Bands.{rectangleOf, at, given, arrivalIn, Shaped, Lent, Shifted}
+use Rattle.bands.specs.Bands.{rectangleOf, at, given, arrivalIn, Shifted}
 use Rattle.bands.specs.declared.Band.{Band}
 use Rattle.bands.proofs.BandLaws.{spots, its-place}
 use Rattle.loops.specs.Tables.{points, entryFor}

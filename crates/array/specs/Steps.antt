@@ -2,7 +2,7 @@
 use mathlib.Core.Path.{_≡_}
 use mathlib.Core.Bool.{cond}
 use mathlib.Core.List.{List}
-use Prim.Native.Nat.{ℕ, _+_, _*_, _%_, _<_, _≤_}
+use Prim.Native.Nat.{ℕ, _*_, _%_, _<_, _≤_}
 use lib.ListN.{length, drop}
 use lib.IntN.{ℤ}
 use Rattle.space.specs.Vectors.{entries}
@@ -13,11 +13,11 @@ use Rattle.job.specs.Limits.{Acceptable}
 use Rattle.verdict.specs.Mapping.{box, hop}
 use Rattle.verdict.specs.Rules.{Ahead, Even}
 use Rattle.verdict.specs.declared.Size.{Size}
-use Rattle.bands.specs.Bands.{rectangleOf, hopOf, at, given, arrivalIn, Lent}
+use Rattle.bands.specs.Bands.{rectangleOf, hopOf, at, given, Lent}
 use Rattle.bands.specs.declared.Band.{Band}
 use Rattle.loops.specs.Tables.{points, entryFor}
 use Rattle.array.specs.Frames.{reach, rectangle, cells, clock, ticks, tickOf, cellOf, w, from, room, held}
-use Rattle.array.specs.Ticks.{lastOf, works, pointAt, arrival, fresh}
+use Rattle.array.specs.Ticks.{lastOf, works, arrival, fresh}
 use Rattle.array.specs.declared.frame.Frame.{Frame}
 use Rattle.array.specs.declared.frame.Reach.{Reach}
 use Rattle.array.specs.declared.Reply.{Reply}

@@ -4,7 +4,7 @@ use job::Job;
 use space::Vector;
 use space::bounds::Bounds;
 ghost use mathlib.Core.Path.{_≡_};
-ghost use Prim.Native.Nat.{_<_, _≤_};
+ghost use Prim.Native.Nat.{_<_};
 ghost use Rattle.space.specs.Numbers.{entry, coordinate};
 ghost use Rattle.space.specs.Vectors.{entries, Sized};
 ghost use Rattle.space.specs.Boxes.{Solid, boxOf};

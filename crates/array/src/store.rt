@@ -2,7 +2,6 @@
 use crate::frame::Frame;
 use bands::Band;
 use job::Job;
-ghost use mathlib.Core.Path.{_≡_};
 ghost use Prim.Native.Nat.{ℕ, _<_};
 ghost use Rattle.bands.specs.Bands.{at, arrivalIn};
 ghost use Rattle.loops.specs.Tables.{points as pointsOf};

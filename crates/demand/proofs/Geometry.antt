@@ -18,15 +18,16 @@ use Rattle.space.proofs.OrderLaws.{before-total}
 use Rattle.space.proofs.BoxLaws.{in-length, point-in, place-point, point-place, place-injective, steps-back, convex}
 use Rattle.space.proofs.BackLaws.{back-some, back-here, back-below}
 use Rattle.job.specs.declared.Job.{Job}
+use Rattle.job.proofs.Accepting.{stream-sound}
 use Rattle.verdict.specs.Mapping.{box, stream, along, H, S, g, Stationary, orOne, hops, hop, delay}
-use Rattle.verdict.specs.Rules.{Collide, Meeting}
 use Rattle.verdict.proofs.Courses.{stationary-none, hops-moving, place-whole}
 use Rattle.loops.specs.Tables.{points}
 use Rattle.loops.specs.Loops.{previous}
 use Rattle.array.specs.Frames.{rectangle, clock, tickOf, cellOf, w}
 use Rattle.array.proofs.FrameLaws.{between, in-rectangle}
 use Rattle.demand.proofs.Lines.{line-start, line-back, line-behind, minus-back}
-use Rattle.demand.proofs.Rules.{Obeys, delay-is, time-whole, delay-low}
+use Rattle.demand.specs.Rules.{Apart, Obeys}
+use Rattle.demand.proofs.Rules.{delay-is, time-whole, delay-low}
 
 -- the point at place k
 abbrev pub point : Job → ℕ → List ℤ
@@ -75,9 +76,9 @@ module _ (j : Job) (rules : Obeys j) where
       place = place-injective (rectangle j) (S j (point j i)) (S j (point j k)) (cell-inside i li) (cell-inside k lk) ec
 
       by : Before (point j i) (point j k) ⊎ ((point j i ≡ point j k) ⊎ Before (point j k) (point j i)) → i ≡ k
-      by (inl b) = absurd (rules .cell (point j i) (point j k) (record { pair = record { first = point-inside i li; second = point-inside k lk; order = b }; time = time; place = place }))
+      by (inl b) = absurd (rules .cell (point j i) (point j k) (record { first = point-inside i li; second = point-inside k lk; order = b }) time place)
       by (inr (inl e)) = sym (place-point (box j) i li) ∙ ap (placeOf (box j)) e ∙ place-point (box j) k lk
-      by (inr (inr b)) = absurd (rules .cell (point j k) (point j i) (record { pair = record { first = point-inside k lk; second = point-inside i li; order = b }; time = sym time; place = sym place }))
+      by (inr (inr b)) = absurd (rules .cell (point j k) (point j i) (record { first = point-inside k lk; second = point-inside i li; order = b }) (sym time) (sym place))
 
   module _ (s : ℕ) (ls : s < j .m) where
     -- no hop leads to the cell itself
@@ -140,25 +141,30 @@ module _ (j : Job) (rules : Obeys j) where
             by zero e h = omega arith
             by (suc n) e h = omega arith
 
-        -- f w is no multiple of g w, so the points f hops apart, in either order, collide: on a through stream since no whole multiple of d lies so, on a local one since f is in its range
-        collides : (y : List ℤ) (z : ℤ) → natAbs z ≡ f → H j y ≡ z *ℤ delay j s → Collide (stream j s .kind) (along j s) (g j s) y z
-        collides y z size time = by (stream j s .kind)
+        -- f w is no multiple of Hd = g w, so no whole multiple of d takes that time
+        no-whole : (y : List ℤ) (z : ℤ) → natAbs z ≡ f → H j y ≡ z *ℤ delay j s → (x : ℤ) → y ≡ timesOf x (along j s) → ⊥
+        no-whole y z size time x m = no-multiple (natAbs x) (hops j s) (w j s) high (delay-low j rules s ls) sizes
           where
             no-multiple : (n g v : ℕ) → f < g → 1 ≤ v → f * v ≡ n * (g * v) → ⊥
             no-multiple zero g v h lv e = omega (arith, mul-le-mul-right v low)
             no-multiple (suc n) g v h lv e = omega (arith, mul-le-mul-right v h)
 
-            same-time : (x : ℤ) → y ≡ timesOf x (along j s) → z *ℤ delay j s ≡ x *ℤ H j (along j s)
-            same-time x m = sym time ∙ ap (H j) m ∙ dot-times (entries (j .time)) x (along j s)
+            same-time : z *ℤ delay j s ≡ x *ℤ H j (along j s)
+            same-time = sym time ∙ ap (H j) m ∙ dot-times (entries (j .time)) x (along j s)
 
-            sizes : (x : ℤ) → y ≡ timesOf x (along j s) → f * w j s ≡ natAbs x * (hops j s * w j s)
-            sizes x m =
-                ap₂ _*_ (sym size) (sym (ap natAbs (delay-is j rules s ls))) ∙ sym (natAbs-* z (delay j s)) ∙ ap natAbs (same-time x m)
+            sizes : f * w j s ≡ natAbs x * (hops j s * w j s)
+            sizes =
+                ap₂ _*_ (sym size) (sym (ap natAbs (delay-is j rules s ls))) ∙ sym (natAbs-* z (delay j s)) ∙ ap natAbs same-time
                 ∙ natAbs-* x (H j (along j s)) ∙ ap (λ (h : ℤ). natAbs x * natAbs h) (time-whole j rules s ls)
 
-            by : (kind : ℕ) → Collide kind (along j s) (g j s) y z
-            by zero = λ x m. no-multiple (natAbs x) (hops j s) (w j s) high (delay-low j rules s ls) (sizes x m)
-            by (suc kind) = let e = hops-moving j s moving in (omega arith, omega arith)
+        -- so points f hops apart, in either order, break the link rule: on a through stream since no whole multiple of d lies so, on a local one since 1 ≤ f ≤ g - 1
+        none-apart : (p q : List ℤ) (z : ℤ) → natAbs z ≡ f → Apart j s p q z → ⊥
+        none-apart p q z size a = by (stream j s .kind) refl (stream-sound j (rules .limits) s ls .kind)
+          where
+            by : (kind : ℕ) → stream j s .kind ≡ kind → kind ≤ 1 → ⊥
+            by zero e h = rules .link-through s ls e moving p q z a (no-whole (minusOf q p) z size (a .time))
+            by (suc zero) e h = let all = hops-moving j s moving in rules .link-local s ls e moving p q z a (omega arith) (omega arith)
+            by (suc (suc kind)) e h = omega arith
 
         -- the place of q is f hops from that of p, and its time f w later
         place-on : S j (point j q) ≡ laneAt j s p f
@@ -173,49 +179,39 @@ module _ (j : Job) (rules : Obeys j) where
             rw (delay-is j rules s ls)
             (omega (int, sum (clock j .low) (pos (tickOf j q)), sum (clock j .low) (pos (tickOf j p)), sum (H j (point j p)) (pos f *ℤ pos (w j s))))
 
-        -- so p and q would be a meeting, whichever stands first in box order
+        -- so p and q are f hops apart, whichever stands first in box order
         pub none-between : ⊥
         none-between = by (before-total (point j p) (point j q) lengths)
           where
             lengths : length (point j p) ≡ length (point j q)
             lengths = point-length p previous-below ∙ sym (point-length q lq)
 
-            p-first : Before (point j p) (point j q) → Meeting j s (point j p) (point j q) (pos f)
+            p-first : Before (point j p) (point j q) → Apart j s (point j p) (point j q) (pos f)
             p-first b =
-                let y = minusOf (point j q) (point j p) in
-                let time : H j y ≡ pos f *ℤ delay j s =
-                dot-minus (entries (j .time)) (point j q) (point j p) (sym lengths) ∙ ap (λ (h : ℤ). h -ℤ H j (point j p)) time-on ∙ gone (H j (point j p)) (pos f *ℤ delay j s) in
                 record {
-                  moving = moving;
                   pair = record { first = point-inside p previous-below; second = point-inside q lq; order = b };
                   place = place-minus j (point j q) (point j p) (sym lengths) ∙ ap (λ (x : List ℤ). minusOf x (S j (point j p))) place-on ∙ minus-plus (S j (point j p)) (timesOf (pos f) (hop j s)) (sym (times-length (pos f) (hop j s)));
-                  time = time;
-                  collide = collides y (pos f) refl time;
+                  time = dot-minus (entries (j .time)) (point j q) (point j p) (sym lengths) ∙ ap (λ (h : ℤ). h -ℤ H j (point j p)) time-on ∙ gone (H j (point j p)) (pos f *ℤ delay j s);
                 }
               where
                 gone : (h v : ℤ) → h +ℤ v -ℤ h ≡ v
                 gone h v = omega (int, sum h v, difference (h +ℤ v) h)
 
-            q-first : Before (point j q) (point j p) → Meeting j s (point j q) (point j p) (negℤ (pos f))
+            q-first : Before (point j q) (point j p) → Apart j s (point j q) (point j p) (negℤ (pos f))
             q-first b =
-                let y = minusOf (point j p) (point j q) in
-                let time : H j y ≡ negℤ (pos f) *ℤ delay j s =
-                dot-minus (entries (j .time)) (point j p) (point j q) lengths ∙ ap (λ (h : ℤ). H j (point j p) -ℤ h) time-on ∙ gone (H j (point j p)) (pos f) (delay j s) in
                 record {
-                  moving = moving;
                   pair = record { first = point-inside q lq; second = point-inside p previous-below; order = b };
                   place = place-minus j (point j p) (point j q) lengths ∙ ap (λ (x : List ℤ). minusOf (S j (point j p)) x) place-on ∙ line-behind (S j (point j p)) (hop j s) (pos f) refl;
-                  time = time;
-                  collide = collides y (negℤ (pos f)) (natAbs-neg (pos f)) time;
+                  time = dot-minus (entries (j .time)) (point j p) (point j q) lengths ∙ ap (λ (h : ℤ). H j (point j p) -ℤ h) time-on ∙ gone (H j (point j p)) (pos f) (delay j s);
                 }
               where
                 gone : (h f v : ℤ) → h -ℤ (h +ℤ f *ℤ v) ≡ negℤ f *ℤ v
                 gone h f v = rw (parts h, parts f, parts v) (simp ring⊖ (omega int⊖))
 
             by : Before (point j p) (point j q) ⊎ ((point j p ≡ point j q) ⊎ Before (point j q) (point j p)) → ⊥
-            by (inl b) = rules .link s ls (point j p) (point j q) (pos f) (p-first b)
+            by (inl b) = none-apart (point j p) (point j q) (pos f) refl (p-first b)
             by (inr (inl same)) = late (ap (tickOf j) (sym (place-point (box j) q lq) ∙ ap (placeOf (box j)) (sym same) ∙ place-point (box j) p previous-below))
               where
                 late : tickOf j q ≡ tickOf j p → ⊥
                 late e = let v = delay-low j rules s ls in omega (arith, mul-le-mul-right (w j s) low)
-            by (inr (inr b)) = rules .link s ls (point j q) (point j p) (negℤ (pos f)) (q-first b)
+            by (inr (inr b)) = none-apart (point j q) (point j p) (negℤ (pos f)) (natAbs-neg (pos f)) (q-first b)

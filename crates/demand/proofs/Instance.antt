@@ -17,7 +17,8 @@ use Rattle.array.specs.Ticks.{pointAt}
 use Rattle.demand.proofs.Machine.{Machine, Nest, given}
 use Rattle.demand.proofs.Mapped.{Mapped}
 use Rattle.demand.proofs.Straight.{Laid, in-cell, LinkRule, mapped}
-use Rattle.demand.proofs.Rules.{Obeys, hops-low, delay-low}
+use Rattle.demand.specs.Rules.{Obeys}
+use Rattle.demand.proofs.Rules.{hops-low, delay-low}
 use Rattle.demand.proofs.Scans.{point-only, point-here}
 use Rattle.demand.proofs.Geometry.{one-point, laneOf, lane-first, previous-below, ticks-on, lane-last, lane-behind, none-between}
 
@@ -60,7 +61,7 @@ module _ (j : Job) (rules : Obeys j) (input : List ℕ) where
   abbrev pub laid : Laid (machine j input) (nest j input)
   laid =
       record {
-        linked = λ s ls. record { is = ls; lasts = delay-low j rules s ls; cells = λ x y e. back-below (rectangle j) (hop j s) x y e };
+        linked = λ s ls. record { is = ls; lasts = delay-low j rules s ls; cells = λ x y e. back-below (rectangle j) _ x y e };
         at-here = λ k lk. point-here j (one-point j rules) k lk;
         at-only = λ t x k e. point-only j t x k e;
         same-work = λ s k f g ls same. same-work j (rules .limits) s ls f g same;

@@ -11,3 +11,4 @@ pub mod Instance
 pub mod Runs
 pub mod Demand
 pub mod Table
+pub mod Promises

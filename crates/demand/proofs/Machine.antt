@@ -56,9 +56,12 @@ abbrev pub Values : Type 0 → Type 0 → Type 0 → Type 0
 Values S P D = S → P → D
 
 module _ {S C P D : Type 0} (M : Machine S C P D) where
-  -- t mod w
+  -- t mod w: the place of a link that tick t reads, and the place of a cell that it stores to
   abbrev pub slot : S → ℕ → ℕ
   slot s t = t % M .delay s
+
+  abbrev pub store : S → ℕ → ℕ
+  store s t = t % M .delay s
 
   -- place t mod w of the cell behind
   unfoldable pub link : ℕ → Places S C D → S → C → D
@@ -83,8 +86,8 @@ module _ {S C P D : Type 0} (M : Machine S C P D) where
 module _ {S C P D : Type 0} (M : Machine S C P D) (N : Nest S C P D) where
   -- one tick, by what each place and each value is after it
   pub record Ticked (t : ℕ) (places : Places S C D) (values : Values S P D) (places′ : Places S C D) (values′ : Values S P D) : Type 0 where
-    pub stores : (s : S) (x : C) → N .Stream s → N .Cell x → places′ s x (slot M s t) ≡ stored M t places s x
-    pub keeps : (s : S) (x : C) (r : ℕ) → N .Stream s → N .Cell x → r < M .delay s → (r ≡ slot M s t → ⊥) → places′ s x r ≡ places s x r
+    pub stores : (s : S) (x : C) → N .Stream s → N .Cell x → places′ s x (store M s t) ≡ stored M t places s x
+    pub keeps : (s : S) (x : C) (r : ℕ) → N .Stream s → N .Cell x → r < M .delay s → (r ≡ store M s t → ⊥) → places′ s x r ≡ places s x r
     pub worked : (s : S) (i : P) → N .Stream s → N .Point i → N .tick i ≡ t → values′ s i ≡ fresh M t places s (N .cell i) i
     pub spared : (s : S) (i : P) → N .Stream s → N .Point i → (N .tick i ≡ t → ⊥) → values′ s i ≡ values s i
 

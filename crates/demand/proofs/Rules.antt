@@ -4,33 +4,38 @@ use mathlib.Core.List.{List}
 use Prim.Native.Nat.{ℕ, zero, suc, _*_, _≤_, _<_, _∣_}
 use native.Mathlib.Nat.{one-dvd}
 use native.Mathlib.Omega.{arith}
-use lib.IntN.{ℤ, pos, natAbs, _*ℤ_}
-use Rattle.space.proofs.Parts.{int, magnitude, product}
+use lib.IntN.{ℤ, pos, negsuc, natAbs, _*ℤ_}
+use lib.Signed.{_≤ℤ_, quotZ}
+use Rattle.space.specs.Numbers.{up}
+use Rattle.space.specs.Vectors.{minusOf}
+use Rattle.space.proofs.Parts.{int, product}
 use Rattle.space.proofs.Ints.{dvd-whole}
 use Rattle.job.specs.declared.Job.{Job}
-use Rattle.job.specs.Limits.{Acceptable}
-use Rattle.verdict.specs.Mapping.{along, H, g, orOne, hops, delay}
-use Rattle.verdict.specs.Rules.{Ahead, Even, SameCell, Meeting}
+use Rattle.verdict.specs.Mapping.{stream, along, H, g, orOne, hops, delay}
+use Rattle.verdict.specs.Rules.{Collide}
 use Rattle.verdict.specs.Replies.{Says}
 use Rattle.verdict.specs.declared.Size.{Size}
 use Rattle.verdict.specs.declared.Verdict.the-variants.{Accepted}
 use Rattle.verdict.proofs.Courses.{stationary-none, hops-some}
-use Rattle.verdict.proofs.SizeLaws.{delay-up}
 use Rattle.array.specs.Frames.{w}
+use Rattle.demand.specs.Rules.{Moving, Apart, Obeys}
 
--- the rules by name
-pub record Obeys (j : Job) : Type 0 where
-  pub limits : Acceptable j
-  pub precedence : (s : ℕ) → s < j .m → Ahead j s
-  pub hop : (s : ℕ) → s < j .m → Even j s
-  pub cell : (p q : List ℤ) → SameCell j p q → ⊥
-  pub link : (s : ℕ) → s < j .m → (p q : List ℤ) (f : ℤ) → Meeting j s p q f → ⊥
+module _ (j : Job) (z : Size) (y : Says j (Accepted z)) where
+  -- no two points are f hops apart where f makes that a collision
+  never : (s : ℕ) → s < j .m → Moving j s → (p q : List ℤ) (f : ℤ) → Apart j s p q f → Collide (stream j s .kind) (along j s) (g j s) (minusOf q p) f → ⊥
+  never s l moving p q f a c = y .kept .1 s l p q f (record { moving = moving; pair = a .pair; place = a .place; time = a .time; collide = c })
 
--- an accepted job keeps them all
-pub rules-kept : (j : Job) (z : Size) → Says j (Accepted z) → Obeys j
-rules-kept j z y =
-    let k = y .kept in
-    record { limits = k .0 .0 .0 .0 .1; precedence = k .0 .0 .0 .1; hop = k .0 .0 .1; cell = k .0 .1; link = k .1 }
+  -- an accepted job keeps them all. Each is shown from what it supposes, so that a weaker rule is shown here too, and refused where the theorem needs the stronger
+  pub rules-kept : Obeys j
+  rules-kept =
+      record {
+        limits = y .kept .0 .0 .0 .0 .1;
+        precedence = λ s l. let h = y .kept .0 .0 .0 .1 s l in omega int;
+        hop = λ s l moving. y .kept .0 .0 .1 s l moving;
+        cell = λ p q pair time place. absurd (y .kept .0 .1 p q (record { pair = pair; time = time; place = place }));
+        link-local = λ s l kind moving p q f a low high. absurd (never s l moving p q f a (rw kind (omega arith, omega arith)));
+        link-through = λ s l kind moving p q f a none. absurd (never s l moving p q f a (rw kind none));
+      }
 
 module _ (j : Job) (rules : Obeys j) (s : ℕ) (ls : s < j .m) where
   -- the hops are at least one
@@ -49,9 +54,13 @@ module _ (j : Job) (rules : Obeys j) (s : ℕ) (ls : s < j .m) where
       by zero e = one-dvd (natAbs (H j (along j s)))
       by (suc n) e = subst (λ (k : ℕ). k ∣ natAbs (H j (along j s))) e (rules .hop s ls (λ still. let none = stationary-none j s still in absurd (omega arith)))
 
-  -- w is not negative
+  -- w is not negative, since Hd is not
   pub delay-is : delay j s ≡ pos (w j s)
-  delay-is = let e = delay-up j s (rules .precedence s ls) in omega (int, magnitude (delay j s))
+  delay-is = let a = rules .precedence s ls in quotient (H j (along j s)) (hops j s) (omega int)
+    where
+      quotient : (z : ℤ) (n : ℕ) → pos 0 ≤ℤ z → quotZ z (pos n) ≡ pos (up (quotZ z (pos n)))
+      quotient (pos a) n h = refl
+      quotient (negsuc a) n h = absurd (omega int)
 
   -- so many hops of w ticks each take the time Hd
   pub time-whole : H j (along j s) ≡ pos (hops j s * w j s)

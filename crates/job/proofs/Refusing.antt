@@ -1,6 +1,6 @@
 -- Laws of checks in order: one number alone is given, it is 0 exactly if all conditions hold, and one list of checks after another.
 use mathlib.Core.Path.{_≡_, refl, sym, _∙_}
-use mathlib.Core.Logic.{_⊎_, inl, inr}
+use mathlib.Core.Logic.{inl, inr}
 use Prim.Native.Nat.{ℕ}
 use native.Mathlib.Omega.{arith}
 use Rattle.job.specs.Refusals.{Checks, done, check, First, andThen}

@@ -1,8 +1,7 @@
 -- Questions asked of each of some places, by a flag that says whether the place is used.
-use mathlib.Core.Path.{_≡_, refl, sym, _∙_}
+use mathlib.Core.Path.{_≡_, refl}
 use mathlib.Core.Bool.{Bool, true, false}
 use Rattle.space.specs.Numbers.{Tells}
-use Rattle.space.proofs.Machine.{never}
 use Rattle.space.proofs.Telling.{tells-as}
 
 yes-flag : {P : Type 0} (b : Bool) → Tells P b → P → b ≡ true

@@ -1,7 +1,6 @@
 -- 'Job': what a record must keep, in the order in which it is asked (refusals 3, 6, 7, 8).
 use mathlib.Core.Path.{_≡_}
 use mathlib.Core.Logic.{_⊎_}
-use mathlib.Core.List.{List, [], _∷_}
 use Prim.Native.Nat.{ℕ, _+_, _<_, _≤_}
 use lib.IntN.{ℤ, pos}
 use Rattle.space.specs.declared.Vector.{Vector}

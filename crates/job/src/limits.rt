@@ -4,14 +4,13 @@ use crate::Stream;
 use space::Vector;
 use space::bounds::Bounds;
 ghost use mathlib.Core.Path.{_≡_};
-ghost use Prim.Native.Nat.{ℕ, _+_, _<_, _≤_};
+ghost use Prim.Native.Nat.{_+_, _<_, _≤_};
 ghost use mathlib.Core.Bool.{true, false};
-ghost use lib.IntN.{ℤ};
 ghost use Rattle.space.specs.Numbers.{Tells};
 ghost use Rattle.space.specs.Vectors.{entries, Sized};
 ghost use Rattle.job.specs.Refusals.{First};
 ghost use Rattle.job.specs.Record.{Firsts, Others, streamsOf, rowsOf};
-ghost use Rattle.job.specs.Limits.{Unused, Idle, Shaped, Boxed, Sound, Ruled, Rowed, limits, boundLimit, rowLimit, pointLimit, stepLimit};
+ghost use Rattle.job.specs.Limits.{Unused, Idle, Shaped, Boxed, Sound, Ruled, Rowed, limits};
 
 // The limits of form 1, as in specs/Limits: the sizes of bounds, of the entries of H and S and of those of d, and the number of points.
 const BOUND_LIMIT: u64 = 127;

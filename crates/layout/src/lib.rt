@@ -1,6 +1,5 @@
 // What the reader and the writer of a job file share: signed bytes, the offsets, the header.
 ghost use mathlib.Core.Path.{_≡_};
-ghost use mathlib.Core.List.{[], _∷_};
 ghost use Prim.Native.Nat.{_≤_, _<_};
 ghost use Rattle.layout.specs.Layout.{InByte, complement, streamsFrom, matricesFrom, totalOf, headerOf};
 

@@ -1,7 +1,7 @@
 // The cell rules, on u32 modulo 2^32.
 use job::Stream;
 ghost use mathlib.Core.Path.{_≡_};
-ghost use Prim.Native.Nat.{_*_, _%_, _<_, _≤_};
+ghost use Prim.Native.Nat.{_*_, _%_, _<_};
 ghost use lib.ListN.{getD};
 ghost use Rattle.loops.specs.Cells.{ruled};
 

@@ -1,4 +1,4 @@
 // The plain loop nest of a job: the cell rules, the loop, and one stream's row of a table.
-pub mod cell;
+mod cell;
 pub mod looped;
 pub mod row;

@@ -1,16 +1,16 @@
 -- Laws of a step back: of the point x at place k, the place of x - d where it is in the box.
-use mathlib.Core.Path.{_≡_, refl, sym, ap, subst, _∙_}
+use mathlib.Core.Path.{_≡_, refl, sym, subst, _∙_}
 use mathlib.Core.Bool.{Bool, true, false, cond, _&&_}
 use mathlib.Core.List.{List, [], _∷_}
 use mathlib.Core.Option.{Option, none, some}
-use Prim.Native.Nat.{ℕ, _<_, _≤_}
+use Prim.Native.Nat.{ℕ, _<_}
 use native.Mathlib.Omega.{arith}
 use lib.ListN.{length}
 use lib.IntN.{ℤ, _-ℤ_}
 use lib.Signed.{leZ}
 use Rattle.space.specs.Numbers.{Tells}
 use Rattle.space.specs.Vectors.{minusOf}
-use Rattle.space.specs.Order.{Before, Forward}
+use Rattle.space.specs.Order.{Forward}
 use Rattle.space.specs.Boxes.{Box, In, inside, countOf, placeOf, pointOf, backOf}
 use Rattle.space.proofs.Parts.{int, difference}
 use Rattle.space.proofs.Machine.{never, tells-leZ}

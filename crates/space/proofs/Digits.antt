@@ -1,13 +1,13 @@
 -- The digits of a place, and what they lead to from the low corner, for a box of four sides.
-use mathlib.Core.Path.{_≡_, refl, sym, ap, _∙_}
-use mathlib.Core.List.{List, [], _∷_, map}
-use Prim.Native.Nat.{ℕ, zero, suc, _+_, _*_, _/_, _%_, _<_, _≤_}
+use mathlib.Core.Path.{_≡_, refl, ap}
+use mathlib.Core.List.{[], _∷_, map}
+use Prim.Native.Nat.{ℕ, _+_, _*_, _/_, _%_, _<_, _≤_}
 use native.Mathlib.Omega.{arith}
 use native.Mathlib.Nat.{mod-lt, div-lt-iff-lt-mul}
 use lib.IntN.{ℤ, pos, _+ℤ_}
-use Rattle.space.specs.Numbers.{Size, difference}
+use Rattle.space.specs.Numbers.{difference}
 use Rattle.space.specs.Vectors.{entries, plusOf, Sized}
-use Rattle.space.specs.Boxes.{Side, side, boxOf, across, countOf, pointOf}
+use Rattle.space.specs.Boxes.{side, boxOf, across, countOf, pointOf}
 use Rattle.space.specs.declared.bounds.Bounds.{Bounds}
 use Rattle.space.specs.declared.bounds.Counts.{Counts}
 use Rattle.space.proofs.BoxLaws.{across-size, behind}

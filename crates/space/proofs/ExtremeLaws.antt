@@ -1,8 +1,8 @@
 -- The least product of a row over a box is met at a corner, chosen entry by entry by the signs of the row; the greatest is the least of the opposite row, turned.
-use mathlib.Core.Path.{_≡_, refl, sym, subst, _∙_}
+use mathlib.Core.Path.{_≡_, refl, subst, _∙_}
 use mathlib.Core.Bool.{Bool, true, false, cond}
 use mathlib.Core.List.{List, [], _∷_}
-use Prim.Native.Nat.{ℕ, suc, _*_}
+use Prim.Native.Nat.{ℕ, _*_}
 use native.Mathlib.Nat.{suc-inj}
 use native.Mathlib.Omega.{arith}
 use lib.ListN.{length}
@@ -10,7 +10,7 @@ use lib.IntN.{ℤ, pos, negsuc, negℤ, _+ℤ_, _-ℤ_, _*ℤ_}
 use lib.Signed.{_≤ℤ_, ltZ, ≤ℤ-refl}
 use Rattle.space.specs.Numbers.{Size}
 use Rattle.space.specs.Vectors.{dotOf, timesOf, Sized}
-use Rattle.space.specs.Boxes.{Side, Box, In, Solid, Least, Greatest, cornerOf, leastOf, greatestOf}
+use Rattle.space.specs.Boxes.{Box, In, Solid, Least, Greatest, cornerOf, leastOf, greatestOf}
 use Rattle.space.proofs.Parts.{int, sum, difference, opposite, parts, ring⊖, int⊖}
 use Rattle.space.proofs.Ints.{≤ℤ-antisymm, *ℤ-mono, *ℤ-anti}
 use Rattle.space.proofs.Machine.{lt-true, lt-false}

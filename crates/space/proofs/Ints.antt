@@ -10,7 +10,7 @@ use mir.Val.{SFits, hbits}
 use lib.IntN.{ℤ, pos, negsuc, negℤ, natAbs, _+ℤ_, _-ℤ_, _*ℤ_, +ℤ-assoc, +ℤ-comm, +ℤ-idl, +ℤ-idr, negℤ-+ℤ, negℤ-negℤ, *ℤ-comm, *ℤ-zero, zero-*ℤ}
 use lib.Signed.{_≤ℤ_, _<ℤ_, mag, quotZ, remZ}
 use Rattle.space.specs.Numbers.{up, Size}
-use Rattle.space.proofs.Parts.{down, sum, difference, product, magnitude, opposite, int, parts, ring⊖, int⊖, le-parts, parts-eq}
+use Rattle.space.proofs.Parts.{down, sum, product, magnitude, opposite, int, parts, ring⊖, int⊖, le-parts, parts-eq}
 
 -- ---- the ring
 module _ (x y z : ℤ) where

@@ -8,12 +8,9 @@
 -- The sizes are numerals, so `tt` shows that they are below 2 ^ 63.
 use mathlib.Core.Path.{_≡_, refl, sym, ap, ap₂, subst, _∙_}
 use mathlib.Core.Bool.{Bool, true, false, not}
-use mathlib.Core.List.{List}
 use Prim.Native.Nat.{ℕ, _+_, _*_, _^_, _<_, _≤_}
 use native.Mathlib.Nat.{lt-of-le-of-lt, lt-trans, le-trans, le-of-eq, le-refl, div-le-self, mod-le, pos-of-ne-zero}
-use native.Mathlib.Omega.{arith}
 use lib.Dec.{T, ltb, ltb→lt, lt→ltb, nleb→lt, lit<}
-use lib.ListN.{getD}
 use lib.IntN.{ℤ, pos, negsuc, natAbs, _+ℤ_, _-ℤ_, _*ℤ_}
 use lib.Signed.{mag, _≤ℤ_, _<ℤ_, clashℤ, leZ, ltZ, leZ-yes, ltZ-yes, ltZ-no, nonNeg, yes-nonNeg, natAbs-le, quotZ, remZ}
 use mir.Syntax.{Width, w64}

@@ -1,17 +1,17 @@
 -- The code has four entries and four sides, the unused ones 0 and 0..0. That changes nothing: products, order, points, places and counts are those of the n entries and sides that are used.
-use mathlib.Core.Path.{_≡_, refl, ap, ap₂, _∙_}
+use mathlib.Core.Path.{_≡_, refl, ap, ap₂}
 use mathlib.Core.Logic.{inl, inr, _↔_}
 use mathlib.Core.List.{List, [], _∷_, _++_}
-use Prim.Native.Nat.{ℕ, zero, suc, _+_, _*_, _/_, _%_}
+use Prim.Native.Nat.{ℕ, zero, suc, _+_, _*_}
 use native.Mathlib.Nat.{suc-inj}
 use native.Mathlib.Omega.{arith}
 use lib.ListN.{length}
 use lib.IntN.{ℤ, pos, _+ℤ_, _*ℤ_, *ℤ-zero}
 use lib.Signed.{_≤ℤ_, ≤ℤ-refl}
 use Rattle.space.specs.Numbers.{steps}
-use Rattle.space.specs.Vectors.{dotOf, plusOf, minusOf, timesOf}
+use Rattle.space.specs.Vectors.{dotOf, minusOf, timesOf}
 use Rattle.space.specs.Order.{Before}
-use Rattle.space.specs.Boxes.{Side, Box, side, In, across, countOf, placeOf, pointOf}
+use Rattle.space.specs.Boxes.{Box, side, In, across, countOf, placeOf}
 use Rattle.space.proofs.Parts.{int}
 use Rattle.space.proofs.OrderLaws.{before-irreflexive}
 

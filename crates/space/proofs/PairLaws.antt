@@ -11,7 +11,7 @@ use lib.IntN.{ℤ, _+ℤ_, _-ℤ_}
 use lib.Signed.{_≤ℤ_, _<ℤ_, ltZ}
 use Rattle.space.specs.Vectors.{entries, plusOf, minusOf, Sized}
 use Rattle.space.specs.Order.{Before, AtMost}
-use Rattle.space.specs.Boxes.{Side, Box, side, boxOf, In, Apart}
+use Rattle.space.specs.Boxes.{Box, side, boxOf, In, Apart}
 use Rattle.space.specs.declared.bounds.Bounds.{Bounds}
 use Rattle.space.proofs.Parts.{int, sum, difference}
 use Rattle.space.proofs.Ints.{≤ℤ-or-<, ≤ℤ-antisymm, minus-size}

@@ -1,12 +1,12 @@
 -- A stream's course: g times one hop is Sd, a moving stream's hop is not 0, and its g is not.
-use mathlib.Core.Path.{_≡_, refl, sym, ap, ap₂, subst, _∙_}
-use mathlib.Core.Logic.{_⊎_, inl, inr, ⊎-elim}
+use mathlib.Core.Path.{_≡_, refl, ap, ap₂, subst, _∙_}
+use mathlib.Core.Logic.{_⊎_, inl, inr}
 use mathlib.Core.List.{List, [], _∷_}
-use Prim.Native.Nat.{ℕ, zero, suc, _<_, _≤_, _∣_}
+use Prim.Native.Nat.{ℕ, zero, suc, _<_, _∣_}
 use native.Mathlib.Omega.{arith}
 use native.Mathlib.Nat.{eq-zero-of-zero-dvd, one-dvd}
 use lib.ListN.{getD}
-use lib.IntN.{ℤ, pos, natAbs, _*ℤ_, *ℤ-comm, *ℤ-zero}
+use lib.IntN.{ℤ, pos, natAbs, _*ℤ_, *ℤ-comm}
 use lib.Signed.{_<ℤ_, quotZ}
 use Rattle.space.specs.Vectors.{entries, dotOf, timesOf}
 use Rattle.space.specs.Divisors.{GcdOf, gcdOf}
@@ -15,7 +15,7 @@ use Rattle.space.proofs.Parts.{int}
 use Rattle.space.proofs.Ints.{trichotomy, dvd-whole, natAbs-zero, times-none}
 use Rattle.space.proofs.DivisorLaws.{gcd-is}
 use Rattle.job.specs.declared.Job.{Job}
-use Rattle.verdict.specs.Mapping.{along, H, S, Stationary, g, orOne, hops, hop, delay}
+use Rattle.verdict.specs.Mapping.{along, S, Stationary, g, orOne, hops, hop}
 
 -- the two entries of Sd
 module _ (j : Job) (s : ℕ) where

@@ -1,11 +1,11 @@
 -- Pairs of points searched by their differences: the first difference of which a property holds, with the least point that it leads from, is the first pair.
-use mathlib.Core.Path.{_≡_, refl, sym, ap, ap₂, subst, _∙_}
-use mathlib.Core.Logic.{_⊎_, inl, inr, ⊎-elim}
+use mathlib.Core.Path.{_≡_, sym, ap₂, subst, _∙_}
+use mathlib.Core.Logic.{_⊎_, inl, inr}
 use mathlib.Core.List.{List, [], _∷_}
 use Prim.Native.Nat.{ℕ}
 use lib.ListN.{length}
-use lib.IntN.{ℤ, pos, _-ℤ_, _*ℤ_}
-use Rattle.space.specs.Vectors.{entries, dotOf, plusOf, minusOf, timesOf}
+use lib.IntN.{ℤ, pos, _-ℤ_}
+use Rattle.space.specs.Vectors.{entries, dotOf, plusOf, minusOf}
 use Rattle.space.specs.Order.{Before, Forward, AtMost}
 use Rattle.space.specs.Boxes.{Box, In, Apart}
 use Rattle.space.proofs.Parts.{int, difference}

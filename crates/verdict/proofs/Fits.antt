@@ -1,10 +1,9 @@
 -- What an acceptable job's numbers come to: small enough for every sum and product of the verdict.
-use mathlib.Core.Path.{_≡_, refl, sym, subst}
-use mathlib.Core.List.{List, [], _∷_}
-use Prim.Native.Nat.{ℕ, zero, suc, _+_, _*_, _<_, _≤_}
+use mathlib.Core.Path.{_≡_}
+use mathlib.Core.List.{List}
+use Prim.Native.Nat.{ℕ, _<_, _≤_}
 use native.Mathlib.Omega.{arith}
 use native.Mathlib.Decide.{decLe}
-use lib.ListN.{getD}
 use lib.IntN.{ℤ, pos}
 use Rattle.space.specs.declared.Vector.{Vector}
 use Rattle.space.specs.Numbers.{Size, limit, coordinate, difference}
@@ -13,11 +12,9 @@ use Rattle.space.specs.Boxes.{Solid, boxOf}
 use Rattle.space.proofs.Ints.{size-up}
 use Rattle.space.proofs.VectorLaws.{sized-up, dot-size}
 use Rattle.job.specs.declared.Job.{Job}
-use Rattle.job.specs.declared.Stream.{Stream}
-use Rattle.job.specs.Record.{streamsOf, noStream}
 use Rattle.job.specs.Limits.{Acceptable, Unused}
 use Rattle.job.proofs.Accepting.{stream-sound}
-use Rattle.verdict.specs.Mapping.{along, stream, H, S}
+use Rattle.verdict.specs.Mapping.{along}
 use Rattle.verdict.specs.Courses.{placed}
 
 -- a vector with no coordinate used is as small as any

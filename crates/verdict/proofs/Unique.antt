@@ -2,28 +2,26 @@
 use mathlib.Core.Path.{_≡_, refl, sym, ap, ap₂, subst, _∙_}
 use mathlib.Core.Logic.{_⊎_, inl, inr, ⊎-elim}
 use mathlib.Core.List.{List, [], _∷_}
-use Prim.Native.Nat.{ℕ, zero, suc, _+_, _*_, _<_, _≤_}
+use Prim.Native.Nat.{ℕ, zero, suc, _*_, _<_, _≤_}
 use native.Mathlib.Omega.{arith}
 use native.Mathlib.Decide.{decLe}
-use native.Mathlib.Nat.{suc-inj}
 use lib.ListN.{length}
 use lib.IntN.{ℤ, pos}
 use Rattle.space.specs.declared.Vector.{Vector}
-use Rattle.space.specs.Vectors.{entries, plusOf, minusOf, timesOf}
+use Rattle.space.specs.Vectors.{entries, plusOf, minusOf}
 use Rattle.space.specs.Order.{Before, AtMost}
-use Rattle.space.specs.Boxes.{Box, Least, Greatest}
+use Rattle.space.specs.Boxes.{Box}
 use Rattle.space.proofs.Parts.{int}
 use Rattle.space.proofs.VectorLaws.{plus-minus, unfour}
 use Rattle.space.proofs.MultipleLaws.{times-cancel}
 use Rattle.space.proofs.OrderLaws.{before-irreflexive, before-trans}
 use Rattle.space.proofs.ExtremeLaws.{least-unique, greatest-unique}
 use Rattle.job.specs.declared.Job.{Job}
-use Rattle.job.specs.Refusals.{First}
-use Rattle.job.specs.Limits.{limits, Acceptable}
+use Rattle.job.specs.Limits.{limits}
 use Rattle.job.proofs.Refusing.{first-unique, acceptable}
 use Rattle.verdict.specs.Mapping.{hop, delays}
 use Rattle.verdict.proofs.Courses.{hop-nonzero}
-use Rattle.verdict.specs.Rules.{Ahead, Even, SameCell, Meeting, Kept, Keeps, Span, Sizes}
+use Rattle.verdict.specs.Rules.{Meeting, Kept, Keeps, Span, Sizes}
 use Rattle.verdict.specs.Replies.{Lowest, FirstPair, turn, Claims, Says}
 use Rattle.verdict.specs.declared.Size.{Size}
 use Rattle.verdict.specs.declared.Pair.{Pair}

@@ -1,6 +1,5 @@
 -- 'Meaning of the verdict': precedence, hop, cell and link.
 use mathlib.Core.Path.{_≡_}
-use mathlib.Core.Logic.{_⊎_}
 use mathlib.Core.List.{List}
 use Prim.Native.Nat.{ℕ, zero, suc, _+_, _*_, _<_, _≤_, _∣_}
 use lib.IntN.{ℤ, pos, natAbs, _+ℤ_, _-ℤ_, _*ℤ_}
@@ -9,7 +8,6 @@ use Rattle.space.specs.Vectors.{entries, minusOf, timesOf}
 use Rattle.space.specs.Order.{Before}
 use Rattle.space.specs.Boxes.{Box, In, Least, Greatest}
 use Rattle.job.specs.declared.Job.{Job}
-use Rattle.job.specs.declared.Stream.{Stream}
 use Rattle.job.specs.Limits.{Acceptable}
 use Rattle.verdict.specs.Mapping.{box, stream, along, H, S, g, Stationary, hop, delay, delays}
 use Rattle.verdict.specs.declared.Size.{Size}

@@ -1,10 +1,9 @@
 -- What the searches of the code answer; only contracts of private functions cite these.
 use mathlib.Core.Path.{_≡_}
-use mathlib.Core.List.{List, [], _∷_, _++_}
+use mathlib.Core.List.{List, [], _∷_}
 use Prim.Native.Nat.{ℕ, _<_}
 use lib.IntN.{ℤ, pos, _*ℤ_}
-use Rattle.space.specs.declared.Vector.{Vector}
-use Rattle.space.specs.Vectors.{entries, dotOf, timesOf}
+use Rattle.space.specs.Vectors.{entries, timesOf}
 use Rattle.space.specs.Order.{Forward, AtMost}
 use Rattle.space.specs.Boxes.{Box, Apart}
 use Rattle.job.specs.declared.Job.{Job}

@@ -13,12 +13,10 @@ use space::Vector;
 use space::bounds::Bounds;
 ghost use mathlib.Core.Path.{_≡_};
 ghost use Prim.Native.Nat.{ℕ, _<_, _≤_};
-ghost use lib.IntN.{ℤ};
-ghost use Rattle.space.specs.Numbers.{up};
 ghost use Rattle.space.specs.Vectors.{entries, Sized};
 ghost use Rattle.space.specs.Boxes.{Solid, boxOf};
 ghost use Rattle.job.specs.Limits.{Acceptable};
-ghost use Rattle.verdict.specs.Mapping.{delay, delays};
+ghost use Rattle.verdict.specs.Mapping.{delays};
 ghost use Rattle.verdict.specs.Rules.{Ahead, Span, Sizes};
 ghost use Rattle.verdict.specs.Replies.{Says};
 

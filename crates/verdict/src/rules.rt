@@ -4,12 +4,9 @@ use crate::Pair;
 use crate::walk::Gap;
 use crate::walk::Met;
 use job::Job;
-ghost use Prim.Native.Nat.{ℕ, _<_};
-ghost use mathlib.Core.List.{List};
-ghost use lib.IntN.{ℤ};
+ghost use Prim.Native.Nat.{_<_};
 ghost use Rattle.space.specs.Numbers.{Tells};
 ghost use Rattle.job.specs.Limits.{Acceptable};
-ghost use Rattle.verdict.specs.Mapping.{Stationary};
 ghost use Rattle.verdict.specs.Rules.{Ahead, Even};
 ghost use Rattle.verdict.specs.Searches.{Finds, Finds-crowd, Finds-jam, Finds-jams};
 

@@ -1,5 +1,5 @@
 -- 'Writer and reader undo each other on all acceptable jobs, and acceptable bytes have exactly one job.'
-use mathlib.Core.Path.{_≡_, refl, sym, ap, subst, _∙_}
+use mathlib.Core.Path.{_≡_, sym, ap, _∙_}
 use mathlib.Core.List.{List}
 use Prim.Native.Nat.{ℕ, _≤_}
 use native.Mathlib.Omega.{arith}

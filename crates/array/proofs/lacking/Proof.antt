@@ -1,10 +1,9 @@
 -- The checks one after the other.
-use mathlib.Core.Path.{_≡_, refl, sym, ap, subst, _∙_}
+use mathlib.Core.Path.{_≡_, refl, sym, ap, _∙_}
 use mathlib.Core.Logic.{inl, inr}
 use Prim.Native.Nat.{ℕ, _*_}
 use native.Mathlib.Nat.{add-zero}
 use native.Mathlib.Omega.{arith}
-use borrow.Author.Needs.{needs}
 use Rattle.space.proofs.VectorLaws.{sized-up}
 use Rattle.verdict.proofs.Fits.{low-sized, high-sized}
 use Rattle.loops.specs.Tables.{points}

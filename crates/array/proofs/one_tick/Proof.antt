@@ -1,5 +1,5 @@
 -- The work on places that nothing has changed, then the storing of values that nothing changes.
-use mathlib.Core.Path.{sym, _∙_}
+use mathlib.Core.Path.{_∙_}
 use borrow.Author.Needs.{needs}
 use Rattle.array.proofs.RunLaws.{tick-whole}
 use Rattle.array.proofs.one_tick.Statement.{statement}

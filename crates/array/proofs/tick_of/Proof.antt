@@ -1,23 +1,18 @@
 -- The verdict taken apart, the checks, and the tick.
-use mathlib.Core.Path.{_≡_, refl, sym, ap, subst, _∙_}
-use mathlib.Core.Logic.{inl, inr}
-use mathlib.Core.List.{List}
-use Prim.Native.Nat.{ℕ, _*_, _<_, _≤_}
+use mathlib.Core.Path.{refl, subst}
+use Prim.Native.Nat.{_<_}
 use native.Mathlib.Omega.{arith}
 use lib.ListN.{length}
 use denote.Ref.{now}
 use borrow.Author.Needs.{needs}
-use Rattle.job.specs.Refusals.{check, done, First}
-use Rattle.job.proofs.Refusing.{stop-first, then-first, first-passes}
+use Rattle.job.specs.Refusals.{check, done}
+use Rattle.job.proofs.Refusing.{stop-first}
 use Rattle.verdict.specs.Replies.{Says}
-use Rattle.verdict.specs.declared.Size.{Size}
 use Rattle.verdict.specs.declared.Verdict.the-variants.{Accepted}
-use Rattle.loops.specs.Tables.{points}
 use Rattle.array.specs.declared.Reply.the-variants.{Ticks}
 use Rattle.array.specs.Runs.{runChecks, tickChecks}
 use Rattle.array.specs.Steps.{Lacks}
 use Rattle.array.proofs.ReplyLaws.{not-accepted, accepted-limits, lacks-refuses, tick-late, tick-taken, tables-tabled, places-roomy}
-use Rattle.array.proofs.FrameLaws.{sizes-room}
 use Rattle.array.proofs.tick_of.Statement.{statement}
 use Rattle.array.proofs.tick_of.Tie as tie
 

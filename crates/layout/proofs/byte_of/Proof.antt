@@ -1,9 +1,7 @@
 use mathlib.Core.Path.{ap, _∙_}
-use native.Mathlib.Omega.{arith}
 use lib.IntN.{ℤ, pos, natAbs, _+ℤ_}
 use mir.Syntax.{w8}
-use Rattle.space.specs.Numbers.{Size}
-use Rattle.space.proofs.Parts.{int, sum, magnitude}
+use Rattle.space.proofs.Parts.{sum, magnitude}
 use Rattle.space.proofs.Machine.{Is, held, arg, lit, add, fit, read, back, cast-to, tests}
 use Rattle.layout.proofs.Entries.{in-size, byte-negative, byte-positive}
 use Rattle.layout.proofs.byte_of.Statement.{statement}

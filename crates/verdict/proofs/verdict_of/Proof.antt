@@ -1,9 +1,8 @@
 -- The first broken rule, in the rules' order.
-use mathlib.Core.Path.{_≡_, refl, sym, subst}
+use mathlib.Core.Path.{subst}
 use borrow.Author.Needs.{needs}
-use Rattle.job.specs.declared.Job.{Job}
 use Rattle.job.specs.Refusals.{First}
-use Rattle.job.specs.Limits.{limits, Acceptable}
+use Rattle.job.specs.Limits.{limits}
 use Rattle.job.proofs.Refusing.{accepted}
 use Rattle.verdict.specs.Rules.{Ahead, Even, Keeps}
 use Rattle.verdict.specs.Searches.{Finds, Finds-crowd, Finds-jams}

@@ -1,10 +1,10 @@
 -- The rectangle of the frame, and the stream's course as hop and delay.
-use mathlib.Core.Path.{_≡_, refl, sym, ap, ap₂, _∙_}
+use mathlib.Core.Path.{_≡_, refl, ap, _∙_}
 use mathlib.Core.List.{List, [], _∷_}
 use borrow.Author.Needs.{needs}
 use lib.IntN.{ℤ, natAbs}
 use Rattle.space.specs.Vectors.{entries}
-use Rattle.space.specs.Boxes.{Side, Box, side}
+use Rattle.space.specs.Boxes.{Box, side}
 use Rattle.space.proofs.VectorLaws.{unfour}
 use Rattle.verdict.proofs.Fits.{row0-sized, row1-sized}
 use Rattle.verdict.proofs.Meetings.{unit-sized}

@@ -3,7 +3,7 @@ use mathlib.Core.Path.{_≡_, refl, sym, ap, ap₂, subst, _∙_}
 use Prim.Native.Nat.{ℕ, _+_, _*_}
 use native.Mathlib.Nat.{mul-le-mul, le-trans, le-of-eq, le-of-lt}
 use native.Mathlib.Omega.{arith}
-use Rattle.space.specs.Numbers.{limit, difference, steps}
+use Rattle.space.specs.Numbers.{difference, steps}
 use Rattle.space.specs.Vectors.{entries, dotOf, Sized}
 use Rattle.space.specs.Boxes.{pointOf, leastOf}
 use Rattle.space.proofs.Machine.{fits-under}

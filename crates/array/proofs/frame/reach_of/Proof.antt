@@ -1,7 +1,6 @@
 -- The least and the greatest product are those of the definitions, and small.
 use mathlib.Core.Path.{refl, sym, ap, ap₂, _∙_}
 use native.Mathlib.Omega.{arith}
-use borrow.Author.Needs.{needs}
 use lib.IntN.{ℤ, pos, _+ℤ_}
 use Rattle.space.specs.Numbers.{Size, steps}
 use Rattle.space.specs.Vectors.{entries}

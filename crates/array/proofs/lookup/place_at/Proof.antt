@@ -1,13 +1,12 @@
 -- From the end: the places from k on hold no point that passes both tests. The measure is what is left of them.
-use mathlib.Core.Path.{_≡_, refl, sym, ap, ap₂, subst, _∙_}
-use mathlib.Core.Bool.{Bool, true, false, cond, _&&_}
-use mathlib.Core.Option.{Option, none, some}
+use mathlib.Core.Path.{_≡_, refl, sym, ap, ap₂, _∙_}
+use mathlib.Core.Bool.{Bool, cond, _&&_}
+use mathlib.Core.Option.{some}
 use Prim.Native.Nat.{ℕ, zero, suc, _-_, _<_, _≤_}
 use native.Mathlib.Nat.{le-of-eq}
 use native.Mathlib.Omega.{arith}
 use borrow.Author.Needs.{needs}
 use lib.Dec.{eqb}
-use Rattle.job.specs.declared.Job.{Job}
 use Rattle.loops.specs.Tables.{points}
 use Rattle.array.specs.Ticks.{lastOf, works, pointAt}
 use Rattle.array.proofs.lookup.place_at.Statement.{statement}

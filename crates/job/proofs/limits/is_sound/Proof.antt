@@ -1,5 +1,5 @@
 -- The gcd is 1 where what `gcd_of_entries` answers, the only one, is 1.
-use mathlib.Core.Path.{_≡_, subst}
+use mathlib.Core.Path.{subst}
 use mathlib.Core.List.{List}
 use Prim.Native.Nat.{ℕ}
 use lib.Dec.{eqb}

@@ -1,7 +1,6 @@
 -- The divisor is not 0, and a quotient is no larger than what is divided.
-use mathlib.Core.Path.{_≡_, ap}
+use mathlib.Core.Path.{ap}
 use borrow.Author.Needs.{needs}
-use lib.IntN.{pos}
 use mir.Syntax.{w64}
 use mir.Val.{ofZ}
 use Rattle.space.proofs.Machine.{arg, div-need}

@@ -1,14 +1,11 @@
 -- Side by side, as `within` tells.
-use mathlib.Core.Path.{_≡_, refl, sym}
-use mathlib.Core.Bool.{Bool, true}
-use mathlib.Core.List.{[]}
+use mathlib.Core.Bool.{Bool}
 use borrow.Author.Needs.{needs}
 use lib.IntN.{ℤ}
 use lib.Signed.{_≤ℤ_}
 use mir.Syntax.{w64}
 use mir.Val.{SFits}
 use Rattle.space.specs.Numbers.{Tells}
-use Rattle.space.specs.Boxes.{In}
 use Rattle.space.proofs.Machine.{held, in-range, back}
 use Rattle.space.proofs.BoxLaws.{told-in, told-last}
 use Rattle.space.proofs.bounds.contains.Statement.{statement}

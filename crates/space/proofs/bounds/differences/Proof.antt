@@ -4,7 +4,7 @@ use mathlib.Core.List.{List}
 use lib.IntN.{ℤ}
 use borrow.Author.Needs.{needs}
 use Rattle.space.specs.Numbers.{difference}
-use Rattle.space.specs.Vectors.{entries, Sized}
+use Rattle.space.specs.Vectors.{Sized}
 use Rattle.space.specs.Boxes.{Box, In, Apart, boxOf}
 use Rattle.space.specs.declared.bounds.Bounds.{Bounds}
 use Rattle.space.proofs.VectorLaws.{minus-sized}

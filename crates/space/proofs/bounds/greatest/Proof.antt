@@ -1,10 +1,10 @@
 -- The least of the opposite row, turned.
-use mathlib.Core.Path.{_≡_, refl, sym, subst}
+use mathlib.Core.Path.{sym, subst}
 use native.Mathlib.Omega.{arith}
 use borrow.Author.Needs.{needs}
-use lib.IntN.{ℤ, pos, negsuc, _-ℤ_}
+use lib.IntN.{pos, negsuc, _-ℤ_}
 use Rattle.space.specs.Numbers.{Size, limit}
-use Rattle.space.specs.Vectors.{entries, timesOf, Sized}
+use Rattle.space.specs.Vectors.{entries, Sized}
 use Rattle.space.specs.Boxes.{boxOf, Least, Greatest}
 use Rattle.space.proofs.Machine.{Is, held, arg, lit, sub, fit, read}
 use Rattle.space.proofs.VectorLaws.{times-sized}

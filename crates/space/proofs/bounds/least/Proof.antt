@@ -1,7 +1,7 @@
 -- The product at the least corner.
 use mathlib.Core.Path.{refl, sym, subst, _∙_}
 use Rattle.space.specs.Numbers.{limit}
-use Rattle.space.specs.Vectors.{entries, dotOf, Sized}
+use Rattle.space.specs.Vectors.{entries}
 use Rattle.space.specs.Boxes.{boxOf, Least}
 use Rattle.space.proofs.Machine.{in-range, back}
 use Rattle.space.proofs.BoxLaws.{in-sized, sides-sized}

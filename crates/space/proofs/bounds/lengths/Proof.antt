@@ -1,10 +1,9 @@
 -- From l to one past u.
-use mathlib.Core.Path.{_≡_, sym, ap, subst, _∙_}
-use mathlib.Core.List.{List, [], _∷_, zipWith}
+use mathlib.Core.Path.{sym, ap, subst, _∙_}
+use mathlib.Core.List.{zipWith}
 use native.Mathlib.Omega.{arith}
-use lib.IntN.{ℤ, pos}
 use borrow.Author.Needs.{needs}
-use Rattle.space.specs.Numbers.{Size, steps, limit, difference}
+use Rattle.space.specs.Numbers.{steps, limit}
 use Rattle.space.specs.Vectors.{entries, plusOf, Sized}
 use Rattle.space.proofs.VectorLaws.{sized-up, plus-sized}
 use Rattle.space.proofs.bounds.lengths.Statement.{statement}

@@ -1,16 +1,13 @@
 -- The digits of k are below the lengths.
 use mathlib.Core.Path.{_≡_, sym, subst}
-use mathlib.Core.List.{List, [], _∷_, map}
+use mathlib.Core.List.{List}
 use Prim.Native.Nat.{ℕ, _≤_, _<_}
 use native.Mathlib.Nat.{mul-le-mul}
 use native.Mathlib.Omega.{arith}
 use lib.IntN.{ℤ, pos}
-use mir.Syntax.{w64}
-use mir.Val.{toZ}
 use Rattle.space.specs.Numbers.{Size}
 use Rattle.space.specs.Vectors.{entries, plusOf, Sized}
-use Rattle.space.specs.Boxes.{boxOf, across, pointOf}
-use Rattle.space.specs.declared.bounds.Bounds.{Bounds}
+use Rattle.space.specs.Boxes.{boxOf, pointOf}
 use Rattle.space.proofs.Machine.{arg, fit, as-held, fits-under}
 use Rattle.space.proofs.Digits.{Digits, digits, digit0, digit1, digit2, digit3, digits-point}
 use Rattle.space.proofs.VectorLaws.{four}

@@ -1,5 +1,4 @@
 -- The digits of a place are the steps from the low corner, each at most 8,188.
-use mathlib.Core.Path.{_≡_}
 use mathlib.Core.List.{zipWith}
 use Prim.Native.Nat.{ℕ, _+_, _*_, _≤_}
 use native.Mathlib.Nat.{mul-le-mul, add-le-add}

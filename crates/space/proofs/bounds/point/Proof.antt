@@ -1,6 +1,5 @@
 -- The low corner and the digits of the place.
 use mathlib.Core.Path.{_∙_}
-use Prim.Native.Nat.{_<_}
 use native.Mathlib.Omega.{arith}
 use borrow.Author.Needs.{needs}
 use Rattle.space.proofs.VectorLaws.{sized-up}

@@ -1,5 +1,5 @@
 -- The greater of l and l - y, entry by entry, is the start of the laws.
-use mathlib.Core.Path.{_≡_, refl, sym, ap, subst, _∙_}
+use mathlib.Core.Path.{_≡_, sym, ap, subst, _∙_}
 use mathlib.Core.List.{List, [], _∷_}
 use lib.IntN.{ℤ}
 use mir.Syntax.{w64}

@@ -1,9 +1,6 @@
 -- Where x is not below l, x - l fits and is not negative.
 use mathlib.Core.Path.{ap, _∙_}
-use Prim.Native.Nat.{ℕ}
-use native.Mathlib.Omega.{arith}
-use lib.IntN.{ℤ, natAbs, _-ℤ_}
-use Rattle.space.specs.Numbers.{Size, limit}
+use lib.IntN.{natAbs, _-ℤ_}
 use Rattle.space.proofs.Parts.{difference, magnitude}
 use Rattle.space.proofs.Machine.{Is, held, arg, sub, fit, read, cast-need, tests}
 use Rattle.space.proofs.bounds.steps_above.Statement.{statement}

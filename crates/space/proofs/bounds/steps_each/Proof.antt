@@ -3,7 +3,6 @@ use mathlib.Core.Path.{_≡_, ap₂, _∙_}
 use mathlib.Core.List.{zipWith}
 use Prim.Native.Nat.{ℕ}
 use lib.IntN.{ℤ}
-use borrow.Author.Needs.{needs}
 use Rattle.space.specs.Numbers.{Size, steps, limit}
 use Rattle.space.proofs.Machine.{held, as-held, held-size}
 use Rattle.space.proofs.VectorLaws.{four}

@@ -1,12 +1,10 @@
 -- Entry by entry from the last two.
-use mathlib.Core.Path.{_≡_, ap, subst, _∙_}
-use mathlib.Core.List.{List, [], _∷_}
+use mathlib.Core.Path.{_≡_, ap, _∙_}
 use Prim.Native.Nat.{ℕ}
 use lib.IntN.{ℤ, natAbs}
 use mir.Syntax.{w64}
 use mir.Val.{SFits}
 use borrow.Author.Needs.{needs}
-use Rattle.space.specs.Divisors.{GcdOf}
 use Rattle.space.proofs.Machine.{held, back, in-range}
 use Rattle.space.proofs.DivisorLaws.{gcd-more}
 use Rattle.space.proofs.divisor.gcd_of_entries.Statement.{statement}

@@ -5,7 +5,7 @@ use lib.Signed.{quotZ}
 use mir.Syntax.{w64}
 use mir.Val.{ofZ}
 use borrow.Author.Needs.{needs}
-use Rattle.space.specs.Numbers.{Size, limit}
+use Rattle.space.specs.Numbers.{limit}
 use Rattle.space.specs.Vectors.{entries, timesOf}
 use Rattle.space.proofs.Ints.{whole-rem, whole-quot}
 use Rattle.space.proofs.Machine.{Is, held, arg, quot, rem, read, div-need}

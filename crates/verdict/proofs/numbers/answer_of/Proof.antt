@@ -3,7 +3,6 @@ use borrow.Author.Needs.{needs}
 use Rattle.space.proofs.Machine.{in-range, back}
 use Rattle.verdict.specs.Replies.{Answers, numberOf, streamOf, hopsOf}
 use Rattle.verdict.specs.declared.Verdict.{Verdict}
-use Rattle.verdict.specs.declared.numbers.Answer.{Answer}
 use Rattle.verdict.proofs.numbers.answer_of.Statement.{statement}
 use Rattle.verdict.proofs.numbers.answer_of.Tie as tie
 

@@ -1,12 +1,9 @@
 -- The first difference, from the least point that it leads from.
-use mathlib.Core.Path.{_≡_, sym, subst}
-use mathlib.Core.List.{List}
+use mathlib.Core.Path.{sym, subst}
 use native.Mathlib.Omega.{arith}
-use lib.IntN.{ℤ}
 use borrow.Author.Needs.{needs}
-use Rattle.space.specs.Numbers.{coordinate, difference}
-use Rattle.space.specs.Vectors.{entries, plusOf, Sized}
-use Rattle.space.specs.Boxes.{boxOf}
+use Rattle.space.specs.Numbers.{coordinate}
+use Rattle.space.specs.Vectors.{entries}
 use Rattle.space.proofs.VectorLaws.{sized-up}
 use Rattle.space.proofs.BoxLaws.{in-sized, sides-sized}
 use Rattle.space.proofs.PairLaws.{apart-sized}

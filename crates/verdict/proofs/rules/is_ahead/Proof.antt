@@ -1,12 +1,10 @@
-use mathlib.Core.Path.{_≡_, sym, ap, subst, _∙_}
-use mathlib.Core.Bool.{Bool}
+use mathlib.Core.Path.{_≡_, sym, subst, _∙_}
 use native.Mathlib.Omega.{arith}
 use lib.IntN.{ℤ, pos}
 use lib.Signed.{_≤ℤ_, leZ}
 use mir.Syntax.{w64}
 use mir.Val.{SFits}
-use borrow.Author.Needs.{needs}
-use Rattle.space.specs.Numbers.{Tells, difference, limit}
+use Rattle.space.specs.Numbers.{Tells, limit}
 use Rattle.space.specs.Vectors.{entries, Sized}
 use Rattle.space.proofs.Machine.{held, in-range, back, tells-leZ}
 use Rattle.space.proofs.VectorLaws.{sized-up}

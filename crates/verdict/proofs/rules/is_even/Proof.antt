@@ -1,25 +1,22 @@
 -- g divides Hd where no rest is left; where g is 0 the stream is stationary and nothing is asked.
-use mathlib.Core.Path.{_≡_, refl, sym, ap, ap₂, subst, _∙_}
-use mathlib.Core.List.{List, [], _∷_}
-use mathlib.Core.Bool.{Bool}
-use Prim.Native.Nat.{ℕ, _%_, _<_, _∣_}
+use mathlib.Core.Path.{_≡_, sym, ap, subst, _∙_}
+use Prim.Native.Nat.{ℕ, _%_, _∣_}
 use native.Mathlib.Nat.{dvd-of-mod-eq-zero, mod-eq-zero-of-dvd}
 use native.Mathlib.Omega.{arith}
 use lib.Dec.{eqb}
-use lib.IntN.{ℤ, pos, natAbs}
+use lib.IntN.{ℤ, natAbs}
 use mir.Syntax.{w64}
 use mir.Val.{SFits}
 use borrow.Author.Needs.{needs}
 use Rattle.space.specs.Numbers.{Tells, difference}
-use Rattle.space.specs.Vectors.{entries, dotOf, Sized}
-use Rattle.space.specs.Divisors.{GcdOf}
+use Rattle.space.specs.Vectors.{entries, Sized}
 use Rattle.space.proofs.Machine.{held, in-range, back, never}
 use Rattle.space.proofs.VectorLaws.{unfour}
 use Rattle.space.proofs.DivisorLaws.{gcd-unique}
 use Rattle.space.proofs.Telling.{tells-as, tells-eq}
 use Rattle.job.specs.declared.Job.{Job}
 use Rattle.job.specs.declared.Stream.{Stream}
-use Rattle.verdict.specs.Mapping.{along, H, g, Stationary}
+use Rattle.verdict.specs.Mapping.{along, H, g}
 use Rattle.verdict.specs.Rules.{Even}
 use Rattle.verdict.specs.Courses.{placed}
 use Rattle.verdict.proofs.Courses.{g-is, none-stationary, stationary-none}

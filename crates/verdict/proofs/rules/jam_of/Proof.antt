@@ -1,18 +1,16 @@
 -- A stationary stream has no links; for a moving one the first difference, from the least point that it leads from.
-use mathlib.Core.Path.{_≡_, refl, sym, subst, _∙_}
+use mathlib.Core.Path.{refl, sym, subst, _∙_}
 use mathlib.Core.List.{List}
-use Prim.Native.Nat.{ℕ}
 use native.Mathlib.Omega.{arith}
 use lib.IntN.{ℤ}
 use borrow.Author.Needs.{needs}
-use Rattle.space.specs.Numbers.{coordinate, difference}
-use Rattle.space.specs.Vectors.{entries, plusOf, minusOf, Sized}
-use Rattle.space.specs.Boxes.{boxOf}
+use Rattle.space.specs.Numbers.{coordinate}
+use Rattle.space.specs.Vectors.{entries, plusOf}
 use Rattle.space.proofs.Machine.{held, in-range, back}
 use Rattle.space.proofs.VectorLaws.{sized-up, minus-plus}
 use Rattle.space.proofs.BoxLaws.{in-sized, sides-sized}
 use Rattle.space.proofs.PairLaws.{apart-sized}
-use Rattle.verdict.specs.Mapping.{box, g, Stationary}
+use Rattle.verdict.specs.Mapping.{box, Stationary}
 use Rattle.verdict.specs.Rules.{Meeting, senders}
 use Rattle.verdict.specs.Replies.{FirstPair}
 use Rattle.verdict.specs.Searches.{Meets, MetAt, Finds-gap}

@@ -1,8 +1,7 @@
 -- Every stream before s keeps the rule.
-use Prim.Native.Nat.{ℕ, _+_, _-_, _<_, _≤_}
+use Prim.Native.Nat.{ℕ, _-_, _<_, _≤_}
 use native.Mathlib.Omega.{arith}
 use borrow.Author.Count.{below-more}
-use borrow.Author.Needs.{needs}
 use Rattle.space.proofs.Telling.{granted, denied}
 use Rattle.verdict.specs.Rules.{Ahead}
 use Rattle.verdict.proofs.rules.late.Statement.{statement}

@@ -1,0 +1,82 @@
+-- DEMAND 3 for the code: what the promises of `array::run_of` and `run_of_bytes` (`Runs`, `OfBytes`) and of `loops::looped::loop_of` and `loop_of_bytes` (`Loops`, `LoopsOf`) say together.
+use mathlib.Core.Path.{_≡_, refl, ap, subst, _∙_}
+use mathlib.Core.Logic.{inl, inr}
+use mathlib.Core.List.{List}
+use Prim.Native.Nat.{ℕ, _*_}
+use native.Mathlib.Omega.{arith}
+use lib.ListN.{length}
+use Rattle.job.specs.declared.Job.{Job}
+use Rattle.job.specs.Refusals.{First, check, done}
+use Rattle.job.specs.Limits.{limits, Acceptable}
+use Rattle.job.proofs.Refusing.{Passes, first-unique, first-passes, then-first}
+use Rattle.reader.specs.Reading.{Reads}
+use Rattle.reader.specs.declared.Reply.the-variants as Read
+use Rattle.reader.proofs.Theorems.{reads-unique}
+use Rattle.loops.specs.Tables.{points}
+use Rattle.loops.specs.Loops.{loopChecks, Loops}
+use Rattle.loops.specs.LoopBytes.{LoopsOf}
+use Rattle.loops.specs.declared.looped.Reply.{Reply as Answer}
+use Rattle.loops.specs.declared.looped.Reply.the-variants.{Points, Refused}
+use Rattle.array.specs.Runs.{runChecks, Runs, OfBytes}
+use Rattle.array.specs.declared.Reply.{Reply}
+use Rattle.array.specs.declared.Reply.the-variants as Array
+use Rattle.demand.proofs.Rules.{rules-kept}
+use Rattle.demand.proofs.Demand.{demand-3}
+
+-- ---- of a record
+module _ (j : Job) (input values places values′ places′ : List ℕ) (n : ℕ) (run : Runs j input values places values′ places′ (Array.Ticks n)) where
+  -- a run that answers a tick count has passed its checks
+  passed : Passes (runChecks j (length input) (length values) (length places) (run .0))
+  passed = first-passes (runChecks j (length input) (length values) (length places) (run .0)) ((λ e. omega arith), ((λ e. omega arith), ((λ e. omega arith), tt))) (run .1 .first)
+
+  -- so its tables are m × points long
+  input-size : length input ≡ j .m * points j
+  input-size = passed .0 .0
+
+  pub values-size : length values ≡ j .m * points j
+  values-size = passed .0 .1
+
+  -- and its job is within the limits
+  within : Acceptable j
+  within = rules-kept j (run .0) (run .1 .accepted) .limits
+
+  -- so the loop, with a value table so long, refuses nothing
+  loop-passes : (before : List ℕ) → length before ≡ j .m * points j → First (loopChecks j input before) 0
+  loop-passes before size =
+      then-first (limits j) (check 13 ((length input ≡ j .m * points j) × (length before ≡ j .m * points j)) done) 0
+      (within .shaped, (within .boxed, (within .sound, (within .rowed, tt)))) (inl ((input-size, size), refl))
+
+  -- A run that answers a tick count leaves in the value table exactly what the loop on the same job and the same input leaves there, whatever stood in the two tables before;
+  -- and the loop then answers the point count.
+  pub run-leaves-loop : (before after : List ℕ) (r : Answer) → length before ≡ j .m * points j → Loops j input before after r → (r ≡ Points (points j)) × (values′ ≡ after)
+  run-leaves-loop before after (Points c) size loop =
+      (ap Points (loop .1), demand-3 j (run .0) (run .1 .accepted) input _ values places′ values′ after values-size (run .3) (loop .2))
+  run-leaves-loop before after (Refused c) size loop = absurd (loop .1 (first-unique (loopChecks j input before) c 0 (loop .0) (loop-passes before size)))
+
+-- ---- of bytes
+module _ (s input values places values′ places′ : List ℕ) where
+  -- a run of bytes that answers a tick count is the run of the job that they are
+  job-ran : (r : Reply) (n : ℕ) → OfBytes s (λ (j : Job). Runs j input values places values′ places′ r) ((values′ ≡ values) × (places′ ≡ places)) r → r ≡ Array.Ticks n → (j : Job) × Reads s (Read.Job j) × Runs j input values places values′ places′ (Array.Ticks n)
+  job-ran r n (inl refused) e = let refusal = refused .2 in let z : _≡_ {A = ℕ} 0 1 = cc in absurd (omega arith)
+  job-ran r n (inr ran) e = (ran .0, ran .1, subst (Runs (ran .0) input values places values′ places′) e (ran .2))
+
+  -- the loop on bytes that are a job is the loop on that job
+  job-looped : (j : Job) → Reads s (Read.Job j) → (before after : List ℕ) (r : Answer) → LoopsOf s input before after r → Loops j input before after r
+  job-looped j reads before after r (inl refused) =
+      let e = reads-unique s (Read.Job j) (Read.Refused (refused .0)) reads (refused .1) in
+      let z : _≡_ {A = ℕ} 0 1 = cc in
+      absurd (omega arith)
+  job-looped j reads before after r (inr looped) =
+      let e = reads-unique s (Read.Job (looped .0)) (Read.Job j) (looped .1) reads in
+      let same : looped .0 ≡ j = cc in
+      subst (λ (j : Job). Loops j input before after r) same (looped .2)
+
+  -- A run of job bytes that answers a tick count leaves in the value table exactly what the loop on the same bytes and the same input leaves there, where its value table is as long as the run's, whatever stood in the two before;
+  -- the bytes are a job, and the loop answers its point count.
+  pub run-leaves-loop-bytes : (r : Reply) (n : ℕ) → OfBytes s (λ (j : Job). Runs j input values places values′ places′ r) ((values′ ≡ values) × (places′ ≡ places)) r → r ≡ Array.Ticks n → (before after : List ℕ) (r′ : Answer) → length before ≡ length values → LoopsOf s input before after r′ → (j : Job) × Reads s (Read.Job j) × (r′ ≡ Points (points j)) × (values′ ≡ after)
+  run-leaves-loop-bytes r n ran e before after r′ size loop =
+      let h = job-ran r n ran e in
+      let j = h .0 in
+      let run = h .2 in
+      let left = run-leaves-loop j input values places values′ places′ n run before after r′ (size ∙ values-size j input values places values′ places′ n run) (job-looped j (h .1) before after r′ loop) in
+      (j, h .1, left .0, left .1)
