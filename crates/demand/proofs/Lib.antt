@@ -10,5 +10,8 @@ pub mod Geometry
 pub mod Instance
 pub mod Runs
 pub mod Demand
+pub mod LimitDecisions
+pub mod Decisions
+pub mod Answer
 pub mod Table
 pub mod Promises

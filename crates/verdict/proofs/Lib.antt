@@ -5,7 +5,4 @@ pub mod FirstPairs
 pub mod Gaps
 pub mod Meetings
 pub mod SizeLaws
-pub mod Decisions
-pub mod LimitDecisions
-pub mod Answer
 pub mod UniqueBytes

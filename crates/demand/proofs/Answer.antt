@@ -23,30 +23,30 @@ use Rattle.job.specs.declared.Job.{Job}
 use Rattle.job.specs.Refusals.{First}
 use Rattle.job.specs.Limits.{limits}
 use Rattle.job.proofs.Refusing.{accepted}
 use Rattle.verdict.specs.Mapping.{box, stream, along, H, S, g, Stationary, delays}
 use Rattle.verdict.specs.Rules.{Ahead, Even, Collide, Meeting, senders, Keeps, Span, Sizes}
 use Rattle.verdict.specs.Replies.{Lowest, FirstPair, Says}
 use Rattle.verdict.specs.Courses.{placed}
 use Rattle.verdict.specs.Searches.{Finds, Still, Meets, Finds-gap, Finds-crowd, Finds-jam, Finds-jams}
 use Rattle.verdict.specs.declared.Size.{Size}
 use Rattle.verdict.specs.declared.Pair.{Pair}
 use Rattle.verdict.specs.declared.Verdict.{Verdict}
 use Rattle.verdict.specs.declared.Verdict.the-variants.{Accepted, Limit, Precedence, Hop, Cell, Link}
 use Rattle.verdict.specs.declared.walk.Gap.{Gap}
 use Rattle.verdict.specs.declared.walk.Gap.the-variants as Gap
 use Rattle.verdict.specs.declared.rules.Broken.{Broken}
 use Rattle.verdict.specs.declared.rules.Broken.the-variants as Broken
 use Rattle.verdict.specs.declared.rules.Crowd.{Crowd}
 use Rattle.verdict.specs.declared.rules.Crowd.the-variants as Crowd
 use Rattle.verdict.specs.declared.rules.Jam.{Jam}
 use Rattle.verdict.specs.declared.rules.Jam.the-variants as Jam
-use Rattle.verdict.proofs.Decisions.{Decided, holding, failing, alike, both, contrary, given, below, atMost, divides, atMostℤ, equalℤ, same, cases}
-use Rattle.verdict.proofs.LimitDecisions.{number}
+use Rattle.demand.proofs.Decisions.{Decided, holding, failing, alike, both, contrary, given, below, atMost, divides, atMostℤ, equalℤ, same, cases}
+use Rattle.demand.proofs.LimitDecisions.{number}
 use Rattle.verdict.proofs.FirstPairs.{ByGap, cell-by-gap, link-by-gap, meets-meeting, no-pair, first-pair}
 use Rattle.verdict.proofs.Gaps.{zerosOf, Spread, Passed, passed-first, passed-more, gap-found, gap-nowhere}
 use Rattle.verdict.proofs.Gaps as Gaps
 use Rattle.verdict.proofs.Meetings.{unit-of, unit-nonzero, apart-times, times-apart}
 use Rattle.verdict.proofs.SizeLaws.{span-is}
 
 -- ---- precedence and hop: the lowest of m streams of which P does not hold
 module _ (P : ℕ → Type 0) (d : (t : ℕ) → Decided (P t)) where
