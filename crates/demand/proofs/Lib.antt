@@ -10,8 +10,5 @@ pub mod Geometry
 pub mod Instance
 pub mod Runs
 pub mod Demand
-pub mod LimitDecisions
-pub mod Decisions
-pub mod Answer
 pub mod Table
 pub mod Promises

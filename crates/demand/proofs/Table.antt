@@ -15,7 +15,7 @@ use Rattle.verdict.specs.Replies.{Says}
 use Rattle.verdict.specs.declared.Size.{Size}
 use Rattle.verdict.specs.declared.Verdict.{Verdict}
 use Rattle.verdict.specs.declared.Verdict.the-variants.{Accepted, Precedence, Hop, Cell, Link}
-use Rattle.demand.proofs.Answer.{answer}
+use Rattle.decisions.proofs.Answer.{answer}
 use Rattle.loops.specs.Tables.{points, entryFor}
 use Rattle.loops.specs.Cells.{ruled, work}
 use Rattle.loops.specs.Loops.{Looped, incoming}

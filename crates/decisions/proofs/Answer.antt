@@ -40,8 +40,8 @@ use Rattle.verdict.specs.declared.rules.Crowd.{Crowd}
 use Rattle.verdict.specs.declared.rules.Crowd.the-variants as Crowd
 use Rattle.verdict.specs.declared.rules.Jam.{Jam}
 use Rattle.verdict.specs.declared.rules.Jam.the-variants as Jam
-use Rattle.demand.proofs.Decisions.{Decided, holding, failing, alike, both, contrary, given, below, atMost, divides, atMostℤ, equalℤ, same, cases}
-use Rattle.demand.proofs.LimitDecisions.{number}
+use Rattle.decisions.proofs.Decisions.{Decided, holding, failing, alike, both, contrary, given, below, atMost, divides, atMostℤ, equalℤ, same, cases}
+use Rattle.decisions.proofs.LimitDecisions.{number}
 use Rattle.verdict.proofs.FirstPairs.{ByGap, cell-by-gap, link-by-gap, meets-meeting, no-pair, first-pair}
 use Rattle.verdict.proofs.Gaps.{zerosOf, Spread, Passed, passed-first, passed-more, gap-found, gap-nowhere}
 use Rattle.verdict.proofs.Gaps as Gaps

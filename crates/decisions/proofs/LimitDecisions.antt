@@ -11,7 +11,7 @@ use Rattle.job.specs.declared.Stream.{Stream}
 use Rattle.job.specs.Record.{streamsOf, rowsOf}
 use Rattle.job.specs.Refusals.{First}
 use Rattle.job.specs.Limits.{Unused, Idle, Shaped, Boxed, Ruled, Sound, Rowed, limits, boundLimit, rowLimit, pointLimit, stepLimit}
-use Rattle.demand.proofs.Decisions.{Decided, alike, both, either, equal, below, atMost, equalℤ, sized, forward, solid, gcdIs, firsts, others, first-of}
+use Rattle.decisions.proofs.Decisions.{Decided, alike, both, either, equal, below, atMost, equalℤ, sized, forward, solid, gcdIs, firsts, others, first-of}
 
 -- ---- 3
 -- the coordinates from n on are 0

@@ -1,0 +1,3 @@
+pub mod LimitDecisions
+pub mod Decisions
+pub mod Answer

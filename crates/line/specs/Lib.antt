@@ -1,0 +1,7 @@
+pub mod Put
+pub mod Decimal
+pub mod Words
+pub mod Row
+pub mod Held
+pub mod Lines
+pub mod Bytes

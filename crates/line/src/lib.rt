@@ -1,0 +1,40 @@
+// The printed line of a verdict, made in a lent buffer by a line writer that holds it.
+mod digits;
+mod fields;
+mod held;
+mod words;
+
+use crate::words::Word;
+use reader::Reply;
+use verdict::Verdict;
+ghost use Prim.Native.Nat.{_≤_};
+ghost use lib.ListN.{length};
+ghost use Rattle.line.specs.Lines.{lineOf, Writes};
+ghost use Rattle.line.specs.Bytes.{WritesOf};
+
+// No line is longer, each number counted at 21 bytes.
+pub const LONGEST: usize = 269;
+
+// Writes the line of a verdict on a job of n dimensions, closed by a newline, to the front of a buffer, and says how long it is. A buffer that the longest line does not fit into stays as it was.
+pub fn write_line(out: &mut [u8], n: u8, v: Verdict) -> usize
+    ensures writes { λ r. ⌜ Writes (now (out .entry)) (lineOf n v) r (now (out .exit)) ⌝ }
+    ensures inside { λ r. ⌜ r ≤ length (now (out .exit)) ⌝ }
+{
+    if out.len() < LONGEST {
+        return 0;
+    }
+    let i = crate::fields::put_fields(out, 0, n, v);
+    crate::held::put_close(out, i, Word::Nothing, Word::End)
+}
+
+// Writes the line of the verdict on job bytes, as `write_line` does.
+pub fn line_of_bytes(out: &mut [u8], s: &[u8]) -> usize
+    ensures writes { λ r. ⌜ WritesOf (now (s .entry)) (now (out .entry)) r (now (out .exit)) ⌝ }
+    ensures inside { λ r. ⌜ r ≤ length (now (out .exit)) ⌝ }
+{
+    let read = reader::read(s);
+    match read {
+        Reply::Refused(number) => write_line(out, 0, Verdict::Limit(number)),
+        Reply::Job(j) => write_line(out, j.n, verdict::verdict_of(j)),
+    }
+}
