@@ -21,10 +21,10 @@ point-requires c κs = search needs
 minus-requires : tie.Need-minus-requires
 minus-requires c κs =
     let b = c .before .args .b in
-    let p = c .before .pre in (
-      subst (Sized limit) (sym (c .point .ensures)) (sized-up (omega arith) (in-sized difference (boxOf b) _ (sides-sized b (p .0) (p .1)) (point-in (boxOf b) (c .before .args .k) (p .3)))),
-      sized-up (omega arith) (p .2),
-    )
+    let p = c .before .pre in
+    let there : Sized limit (entries (c .point .result)) = subst (Sized limit) (sym (c .point .ensures)) (sized-up (omega arith) (in-sized difference (boxOf b) _ (sides-sized b (p .0) (p .1)) (point-in (boxOf b) (c .before .args .k) (p .3)))) in
+    let along : Sized limit (entries (c .before .args .d)) = sized-up (omega arith) (p .2) in
+    (search (there, along), search (there, along))
 
 contains-requires : tie.Need-contains-requires
 contains-requires c κs = search needs
