@@ -18,12 +18,13 @@ use Rattle.loops.specs.Loops.{Looped, incoming as loopIncoming}
 use Rattle.array.specs.Frames.{cells, ticks, tickOf, cellOf, held}
 use Rattle.array.specs.Ticks.{pointAt, Ran, incoming as arrayIncoming}
 use Rattle.array.proofs.FrameLaws.{tick-below, cell-below}
-use Rattle.demand.proofs.Machine.{incoming, taken}
+use Rattle.demand.specs.Machine.{incoming, taken}
 use Rattle.demand.proofs.Mapped as Core
 use Rattle.demand.specs.Rules.{Obeys}
 use Rattle.demand.proofs.Rules.{rules-kept}
 use Rattle.demand.proofs.Scans.{point-only}
-use Rattle.demand.proofs.Instance.{machine, nest, job-mapped}
+use Rattle.demand.specs.Instances.{machine, nest}
+use Rattle.demand.proofs.Instance.{job-mapped}
 use Rattle.demand.proofs.Runs.{incoming-is, Steps, steps-of, run-of, taken-is, loop-solves, ran-size, ran-through}
 
 -- two tables of one size with the same entries are the same

@@ -1,53 +1,23 @@
 -- An accepted job is an instance of the core: its array is a machine, its loop nest a nest, and the four rules give `Laid` and the link rule of straight links.
 use mathlib.Core.Path.{_≡_, refl}
-use mathlib.Core.Bool.{true}
 use mathlib.Core.List.{List}
 use mathlib.Core.Option.{none, some}
-use Prim.Native.Nat.{ℕ, _<_}
-use Rattle.space.specs.Boxes.{backOf}
+use Prim.Native.Nat.{ℕ}
 use Rattle.space.proofs.BackLaws.{back-below}
 use Rattle.job.specs.declared.Job.{Job}
-use Rattle.verdict.specs.Mapping.{hops, hop}
-use Rattle.loops.specs.Tables.{points, entryFor}
-use Rattle.loops.specs.Cells.{work}
+use Rattle.verdict.specs.Mapping.{hops}
+use Rattle.loops.specs.Tables.{entryFor}
 use Rattle.loops.specs.Loops.{previous}
 use Rattle.loops.proofs.LoopLaws.{same-work}
-use Rattle.array.specs.Frames.{rectangle, cells, tickOf, cellOf, w}
-use Rattle.array.specs.Ticks.{pointAt}
-use Rattle.demand.proofs.Machine.{Machine, Nest, given}
+use Rattle.array.specs.Frames.{rectangle, cells}
+use Rattle.demand.specs.Machine.{given}
+use Rattle.demand.specs.Instances.{machine, nest}
 use Rattle.demand.proofs.Mapped.{Mapped}
 use Rattle.demand.proofs.Straight.{Laid, in-cell, LinkRule, mapped}
 use Rattle.demand.specs.Rules.{Obeys}
 use Rattle.demand.proofs.Rules.{hops-low, delay-low}
 use Rattle.demand.proofs.Scans.{point-only, point-here}
 use Rattle.demand.proofs.Geometry.{one-point, laneOf, lane-first, previous-below, ticks-on, lane-last, lane-behind, none-between}
-
--- the array of a job: streams, cells and points by their numbers; every point sends, and inputs are fed at the points
-abbrev pub machine : Job → List ℕ → Machine ℕ ℕ ℕ ℕ
-machine j input =
-    record {
-      delay = w j;
-      back = λ s x. backOf (rectangle j) (hop j s) x;
-      at = pointAt j;
-      enter = λ s t x. none;
-      own = λ s k. given (previous j s k) (some (entryFor j input s k)) (λ q. none);
-      sends = λ s k. true;
-      work = λ k f s. work j s f;
-      rest = 0;
-    }
-
--- its loop nest
-abbrev pub nest : Job → List ℕ → Nest ℕ ℕ ℕ ℕ
-nest j input =
-    record {
-      Stream = λ s. s < j .m;
-      Cell = λ x. x < cells j;
-      Point = λ k. k < points j;
-      tick = tickOf j;
-      cell = cellOf j;
-      previous = previous j;
-      input = entryFor j input;
-    }
 
 module _ (j : Job) (rules : Obeys j) (input : List ℕ) where
   -- a point with i - d in the box is not fed, and one without is

@@ -1,4 +1,3 @@
-pub mod Machine
 pub mod History
 pub mod Ride
 pub mod Mapped

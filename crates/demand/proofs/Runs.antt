@@ -18,8 +18,8 @@ use Rattle.loops.specs.Loops.{previous, fromPrevious, Looped, incoming as loopI
 use Rattle.array.specs.Frames.{rectangle, held}
 use Rattle.array.specs.Ticks.{pointAt, Ran, Ticked as ArrayTicked, arrival as arrayArrival, incoming as arrayIncoming, fresh as arrayFresh, stored as arrayStored}
 use Rattle.array.specs.Ticks.Ran.{ready, ticked}
-use Rattle.demand.proofs.Machine.{given, link, arrival, incoming, fresh, stored, taken, Ticked, Run, Solves}
-use Rattle.demand.proofs.Instance.{machine, nest}
+use Rattle.demand.specs.Machine.{given, link, arrival, incoming, fresh, stored, taken, Ticked, Run, Solves}
+use Rattle.demand.specs.Instances.{machine, nest}
 
 module _ (j : Job) (input : List ℕ) where
   -- ---- one tick: what the array's definitions say is what the machine's say, of what the places hold
