@@ -24,11 +24,16 @@ use Rattle.bands.specs.Bands.{rectangleOf, at, given, arrivalIn, Shaped, Lent}
 use Rattle.bands.specs.declared.Band.{Band}
 use Rattle.array.specs.Frames.{rectangle, cells, w, from}
 use Rattle.array.specs.Ticks.{arrival}
-use Rattle.array.specs.Steps.{Runnable, Banded, Roomy, Band-lent}
+use Rattle.array.specs.Steps.{Runnable, Banded, bandAt, Framed, Roomy, Band-lent}
+use Rattle.array.specs.declared.frame.Frame.{Frame}
 use Rattle.array.proofs.FrameLaws.{small-ends, rectangle-solid}
 use Rattle.array.proofs.RoomLaws.{from-next, delay-some, band-in, band-few, cells-few, part-at}
 
 -- ---- the shape of a band
+-- the frame has it
+pub band-is : {j : Job} {f : Frame} {s : ℕ} {b : Band} → Framed j f → s < j .m → b ≡ bandAt (f .bands) s → Banded j s b
+band-is {j} {f} {s} F h e = subst (Banded j s) (sym e) (F .bands s h)
+
 -- the sides of the rectangle are small
 rectangle-sized : (j : Job) → Acceptable j → SidesSized limit (rectangle j)
 rectangle-sized j a =

@@ -24,7 +24,7 @@ use Rattle.array.specs.declared.frame.Frame.{Frame}
 use Rattle.array.specs.declared.Reply.{Reply}
 use Rattle.array.specs.declared.Reply.the-variants.{Ticks, Refused, Tables, Large, Few, Late}
 use Rattle.array.specs.Runs.{runChecks, tickChecks, Replies}
-use Rattle.array.specs.Steps.{Runnable, Framed, Tabled, Roomy, Lacks}
+use Rattle.array.specs.Steps.{AllAhead, Runnable, Framed, Tabled, Roomy, Lacks}
 use Rattle.array.proofs.Reply.{the-type as reply-type}
 use Rattle.array.proofs.FrameLaws.{sizes-room}
 
@@ -38,13 +38,16 @@ not-accepted j (Hop t) s o e = absurd (omega arith)
 not-accepted j (Cell c) s o e = absurd (omega arith)
 not-accepted j (Link c) s o e = absurd (omega arith)
 
--- an accepted job keeps the limits, and may run if its room is inside the size limit
+-- an accepted job keeps the limits and precedence, and may run if its room is inside the size limit
 pub accepted-limits : {j : Job} {z : Size} → Says j (Accepted z) → Acceptable j
 accepted-limits s = s .kept .0 .0 .0 .0 .1
 
+pub accepted-frames : {j : Job} {z : Size} → Says j (Accepted z) → Acceptable j × AllAhead j
+accepted-frames s = (accepted-limits s, s .kept .0 .0 .0 .1)
+
 pub accepted-runs : {j : Job} {z : Size} → Says j (Accepted z) → z .room ≤ 8192 → Runnable j
 accepted-runs {j} {z} s h =
-    record { acceptable = accepted-limits s; ahead = s .kept .0 .0 .0 .1; even = s .kept .0 .0 .1; few = subst (λ (n : ℕ). n ≤ 8192) (sizes-room j (accepted-limits s) z (s .claim)) h }
+    record { acceptable = accepted-limits s; ahead = accepted-frames s .1; even = s .kept .0 .0 .1; few = subst (λ (n : ℕ). n ≤ 8192) (sizes-room j (accepted-limits s) z (s .claim)) h }
 
 -- ---- the tables
 -- a test of both lengths

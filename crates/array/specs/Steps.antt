@@ -1,9 +1,9 @@
 -- What the steps of a tick hold; only contracts of private functions cite these.
 use mathlib.Core.Path.{_≡_}
 use mathlib.Core.Bool.{cond}
-use mathlib.Core.List.{List}
+use mathlib.Core.List.{List, [], _∷_}
 use Prim.Native.Nat.{ℕ, _*_, _%_, _<_, _≤_}
-use lib.ListN.{length, drop}
+use lib.ListN.{length, getD, drop}
 use lib.IntN.{ℤ}
 use Rattle.space.specs.Vectors.{entries}
 use Rattle.space.specs.Boxes.{Box, across, leastOf, greatestOf}
@@ -19,14 +19,19 @@ use Rattle.loops.specs.Tables.{points, entryFor}
 use Rattle.array.specs.Frames.{reach, rectangle, cells, clock, ticks, tickOf, cellOf, w, from, room, held}
 use Rattle.array.specs.Ticks.{lastOf, works, arrival, fresh}
 use Rattle.array.specs.declared.frame.Frame.{Frame}
+use Rattle.array.specs.declared.frame.Bands.{Bands}
 use Rattle.array.specs.declared.frame.Reach.{Reach}
 use Rattle.array.specs.declared.Reply.{Reply}
 use Rattle.array.specs.declared.Reply.the-variants.{Ticks, Refused, Tables, Large, Few, Late}
 
+-- precedence over all streams
+abbrev pub AllAhead : Job → Type 0
+AllAhead j = (s : ℕ) → s < j .m → Ahead j s
+
 -- what a job that may run has: it keeps the limits, precedence and hop, and its room is inside the size limit
 pub record Runnable (j : Job) : Type 0 where
   pub acceptable : Acceptable j
-  pub ahead : (s : ℕ) → s < j .m → Ahead j s
+  pub ahead : AllAhead j
   pub even : (s : ℕ) → s < j .m → Even j s
   pub few : room j ≤ 8192
 
@@ -35,6 +40,18 @@ pub record Reaches (h : List ℤ) (B : Box) (r : Reach) : Type 0 where
   pub low : r .low ≡ leastOf h B
   pub high : r .high ≡ greatestOf h B
   pub count : r .count ≡ across (reach h B)
+
+-- b is the shape of the band of stream s
+pub record Banded (j : Job) (s : ℕ) (b : Band) : Type 0 where
+  pub rectangle : rectangleOf b ≡ rectangle j
+  pub hop : hopOf b ≡ hop j s
+  pub delay : b .w ≡ w j s
+
+abbrev pub bandAt : Bands → ℕ → Band
+bandAt bands s = getD (bands .band0 ∷ bands .band1 ∷ bands .band2 ∷ bands .band3 ∷ []) s (bands .band0)
+
+abbrev pub AllBanded : Job → Bands → Type 0
+AllBanded j bands = (s : ℕ) → s < j .m → Banded j s (bandAt bands s)
 
 -- f holds the numbers of the job's array
 pub record Framed (j : Job) (f : Frame) : Type 0 where
@@ -46,12 +63,7 @@ pub record Framed (j : Job) (f : Frame) : Type 0 where
   pub high1 : f .high1 ≡ greatestOf (entries (j .row1)) (box j)
   pub columns : f .columns ≡ across (reach (entries (j .row1)) (box j))
   pub cells : f .cells ≡ cells j
-
--- b is the shape of the band of stream s
-pub record Banded (j : Job) (s : ℕ) (b : Band) : Type 0 where
-  pub rectangle : rectangleOf b ≡ rectangle j
-  pub hop : hopOf b ≡ hop j s
-  pub delay : b .w ≡ w j s
+  pub bands : AllBanded j (f .bands)
 
 -- a job that may run with its frame, and a table with a column for each point
 pub record Tabled (j : Job) (f : Frame) (table : List ℕ) : Type 0 where

@@ -52,7 +52,8 @@ fn place_at(j: Job, f: Frame, t: u64, x: u64) -> Found
     let mut k = f.points;
     while 0 < k {
         k -= 1;
-        if (crate::frame::tick_at(j, f, k) == t) & (crate::frame::cell_at(j, f, k) == x) {
+        let p = space::bounds::point(j.bounds, k);
+        if (crate::frame::tick_at(j, f, p, k) == t) & (crate::frame::cell_at(j, f, p, k) == x) {
             return Found::At(k);
         }
     }

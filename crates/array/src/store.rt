@@ -2,13 +2,18 @@
 use crate::frame::Frame;
 use bands::Band;
 use job::Job;
+use space::Vector;
+ghost use mathlib.Core.Path.{_≡_};
 ghost use Prim.Native.Nat.{ℕ, _<_};
+ghost use Rattle.space.specs.Vectors.{entries};
+ghost use Rattle.space.specs.Boxes.{pointOf};
+ghost use Rattle.verdict.specs.Mapping.{box};
 ghost use Rattle.bands.specs.Bands.{at, arrivalIn};
 ghost use Rattle.loops.specs.Tables.{points as pointsOf};
 ghost use Rattle.array.specs.Frames.{w};
 ghost use Rattle.array.specs.Steps.{Tabled, Roomy, Band-lent, Slot, putOne, workedOr, Stored};
 
-// The value of the point at place k goes to its cell, if it is worked in tick t.
+// The value of p, the point at place k, goes to its cell, if it is worked in tick t.
 fn put_point(
     j: Job,
     f: Frame,
@@ -18,13 +23,14 @@ fn put_point(
     slot: u64,
     values: &[u32],
     band: &mut [u32],
+    p: Vector,
     k: u64,
 )
-    requires { ⌜ Tabled j f (now values) × (s < j .m) × Band-lent j s t b slot (now band) × (k < pointsOf j) ⌝ }
+    requires { ⌜ Tabled j f (now values) × (s < j .m) × Band-lent j s t b slot (now band) × (k < pointsOf j) × (entries p ≡ pointOf (box j) k) ⌝ }
     ensures { λ _. ⌜ Slot j s slot (putOne j t s slot (now (values .entry)) k (now (band .entry))) (now (band .entry)) (now (band .exit)) ⌝ }
 {
-    if crate::frame::tick_at(j, f, k) == t {
-        let x = crate::frame::cell_at(j, f, k);
+    if crate::frame::tick_at(j, f, p, k) == t {
+        let x = crate::frame::cell_at(j, f, p, k);
         let from = loops::looped::place_in_table(s, f.points, k);
         let i = (x * b.w + slot) as usize;
         band[i] = values[from];
@@ -37,9 +43,12 @@ fn put_points(j: Job, f: Frame, t: u64, s: u8, b: Band, slot: u64, values: &[u32
     ensures { λ _. ⌜ Slot j s slot (λ (x : ℕ). workedOr j t s (now (values .entry)) (pointsOf j) x (at (w j s) (now (band .entry)) x slot)) (now (band .entry)) (now (band .exit)) ⌝ }
 {
     let points = f.points;
+    let bounds = j.bounds;
+    let mut p = space::bounds::point(bounds, 0);
     let mut k: u64 = 0;
     while k < points {
-        put_point(j, f, t, s, b, slot, values, &mut band[..], k);
+        put_point(j, f, t, s, b, slot, values, &mut band[..], p, k);
+        p = space::bounds::next(bounds, p);
         k += 1;
     }
 }
@@ -62,7 +71,7 @@ pub fn store(j: Job, f: Frame, t: u64, values: &[u32], places: &mut [u32])
     let mut from = 0;
     let mut s: u8 = 0;
     while s < m {
-        let b = crate::frame::band_of(j, f, s);
+        let b = crate::frame::band_at(f.bands, s);
         let end = from + (f.cells * b.w) as usize;
         store_band(j, f, t, s, b, t % b.w, values, &mut places[from..end]);
         from = end;

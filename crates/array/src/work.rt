@@ -1,16 +1,21 @@
 // The work of a tick: the values of its points, from places that nothing has changed yet.
 use crate::frame::Frame;
+use bands::Band;
 use job::Job;
+use space::Vector;
 use space::bounds::Found;
 ghost use mathlib.Core.Path.{_≡_};
 ghost use Prim.Native.Nat.{ℕ, _<_};
 ghost use lib.ListN.{getD};
+ghost use Rattle.space.specs.Vectors.{entries};
+ghost use Rattle.space.specs.Boxes.{pointOf};
+ghost use Rattle.verdict.specs.Mapping.{box};
 ghost use Rattle.loops.specs.Tables.{points as pointsOf};
-ghost use Rattle.array.specs.Frames.{cells, from as fromOf};
+ghost use Rattle.array.specs.Frames.{tickOf, cells, from as fromOf};
 ghost use Rattle.array.specs.Ticks.{incoming};
-ghost use Rattle.array.specs.Steps.{Tabled, Roomy, Point, Points};
+ghost use Rattle.array.specs.Steps.{Banded, Tabled, Roomy, Point, Points};
 
-// What comes in on stream s at the point at place k in cell x; the stream's band starts at from.
+// What comes in on stream s at p, the point at place k, in cell x; the stream's band b starts at from.
 fn incoming_at(
     j: Job,
     f: Frame,
@@ -18,17 +23,18 @@ fn incoming_at(
     input: &[u32],
     places: &[u32],
     s: u8,
+    b: Band,
     from: usize,
     x: u64,
+    p: Vector,
     k: u64,
 ) -> u32
-    requires { ⌜ Tabled j f (now input) × Roomy j (now places) × (s < j .m) × (from ≡ fromOf j s) × (x < cells j) × (k < pointsOf j) ⌝ }
+    requires { ⌜ Tabled j f (now input) × Roomy j (now places) × (s < j .m) × (from ≡ fromOf j s) × (x < cells j) × (k < pointsOf j) × Banded j s b × (entries p ≡ pointOf (box j) k) ⌝ }
     ensures { λ r. ⌜ r ≡ incoming j (now (input .entry)) t (now (places .entry)) s x k ⌝ }
 {
-    let found = loops::looped::previous_at(j, s, k);
+    let found = loops::looped::previous_at(j, s, p, k);
     match found {
         Found::At(_q) => {
-            let b = crate::frame::band_of(j, f, s);
             let end = from + (f.cells * b.w) as usize;
             bands::arriving(&places[from..end], b, t % b.w, x)
         }
@@ -40,8 +46,17 @@ fn incoming_at(
 }
 
 // What comes in on every stream.
-fn incoming_all(j: Job, f: Frame, t: u64, input: &[u32], places: &[u32], x: u64, k: u64) -> [u32; 4]
-    requires { ⌜ Tabled j f (now input) × Roomy j (now places) × (x < cells j) × (k < pointsOf j) ⌝ }
+fn incoming_all(
+    j: Job,
+    f: Frame,
+    t: u64,
+    input: &[u32],
+    places: &[u32],
+    x: u64,
+    p: Vector,
+    k: u64,
+) -> [u32; 4]
+    requires { ⌜ Tabled j f (now input) × Roomy j (now places) × (x < cells j) × (k < pointsOf j) × (entries p ≡ pointOf (box j) k) ⌝ }
     ensures { λ r. ⌜ ((s : ℕ) → s < j .m → getD r s 0 ≡ incoming j (now (input .entry)) t (now (places .entry)) s x k) ⌝ }
 {
     let m = j.m;
@@ -49,25 +64,51 @@ fn incoming_all(j: Job, f: Frame, t: u64, input: &[u32], places: &[u32], x: u64,
     let mut from = 0;
     let mut s: u8 = 0;
     while s < m {
-        let v = incoming_at(j, f, t, input, places, s, from, x, k);
+        let b = crate::frame::band_at(f.bands, s);
+        let v = incoming_at(j, f, t, input, places, s, b, from, x, p, k);
         let i = s as usize;
         got[i] = v;
-        let b = crate::frame::band_of(j, f, s);
         from += (f.cells * b.w) as usize;
         s += 1;
     }
     got
 }
 
-// The point at place k, if it is worked in tick t.
-fn work_point(j: Job, f: Frame, t: u64, input: &[u32], values: &mut [u32], places: &[u32], k: u64)
-    requires { ⌜ Tabled j f (now input) × Tabled j f (now values) × Roomy j (now places) × (k < pointsOf j) ⌝ }
+// p, the point at place k, worked in tick t.
+fn work_column(
+    j: Job,
+    f: Frame,
+    t: u64,
+    input: &[u32],
+    values: &mut [u32],
+    places: &[u32],
+    p: Vector,
+    k: u64,
+)
+    requires { ⌜ Tabled j f (now input) × Tabled j f (now values) × Roomy j (now places) × (k < pointsOf j) × (entries p ≡ pointOf (box j) k) × (tickOf j k ≡ t) ⌝ }
     ensures { λ _. ⌜ Point j (now (input .entry)) t (now (places .entry)) k (now (values .entry)) (now (values .exit)) ⌝ }
 {
-    if crate::frame::tick_at(j, f, k) == t {
-        let x = crate::frame::cell_at(j, f, k);
-        let got = incoming_all(j, f, t, input, places, x, k);
-        loops::looped::put_column(j, &mut values[..], f.points, k, got);
+    let x = crate::frame::cell_at(j, f, p, k);
+    let got = incoming_all(j, f, t, input, places, x, p, k);
+    loops::looped::put_column(j, &mut values[..], f.points, k, got);
+}
+
+// The same, if it is worked in tick t.
+fn work_point(
+    j: Job,
+    f: Frame,
+    t: u64,
+    input: &[u32],
+    values: &mut [u32],
+    places: &[u32],
+    p: Vector,
+    k: u64,
+)
+    requires { ⌜ Tabled j f (now input) × Tabled j f (now values) × Roomy j (now places) × (k < pointsOf j) × (entries p ≡ pointOf (box j) k) ⌝ }
+    ensures { λ _. ⌜ Point j (now (input .entry)) t (now (places .entry)) k (now (values .entry)) (now (values .exit)) ⌝ }
+{
+    if crate::frame::tick_at(j, f, p, k) == t {
+        work_column(j, f, t, input, &mut values[..], places, p, k);
     }
 }
 
@@ -77,9 +118,12 @@ pub fn work(j: Job, f: Frame, t: u64, input: &[u32], values: &mut [u32], places:
     ensures { λ _. ⌜ Points j (now (input .entry)) t (now (places .entry)) (pointsOf j) (now (values .entry)) (now (values .exit)) ⌝ }
 {
     let points = f.points;
+    let b = j.bounds;
+    let mut p = space::bounds::point(b, 0);
     let mut k: u64 = 0;
     while k < points {
-        work_point(j, f, t, input, &mut values[..], places, k);
+        work_point(j, f, t, input, &mut values[..], places, p, k);
+        p = space::bounds::next(b, p);
         k += 1;
     }
 }

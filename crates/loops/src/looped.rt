@@ -1,11 +1,14 @@
 // The loop: points in box order.
 use job::Job;
+use space::Vector;
 use space::bounds::Found;
 ghost use mathlib.Core.Path.{_≡_};
 ghost use Prim.Native.Nat.{ℕ, _+_, _*_, _<_, _≤_};
 ghost use lib.ListN.{getD};
-ghost use Rattle.space.specs.Boxes.{foundOf};
+ghost use Rattle.space.specs.Vectors.{entries};
+ghost use Rattle.space.specs.Boxes.{pointOf, foundOf};
 ghost use Rattle.job.specs.Limits.{Acceptable};
+ghost use Rattle.verdict.specs.Mapping.{box};
 ghost use Rattle.loops.specs.Tables.{points as pointsOf};
 ghost use Rattle.loops.specs.Loops.{previous, incoming, Looped, Loops};
 ghost use Rattle.loops.specs.LoopBytes.{LoopsOf};
@@ -57,21 +60,21 @@ pub fn place_in_table(s: u8, points: u64, k: u64) -> usize
     ((s as u64) * points + k) as usize
 }
 
-// The place of the point before the one at place k, on stream s.
-pub fn previous_at(j: Job, s: u8, k: u64) -> Found
-    requires { ⌜ Acceptable j × (s < j .m) × (k < pointsOf j) ⌝ }
+// The place of the point before p, the point at place k, on stream s.
+pub fn previous_at(j: Job, s: u8, p: Vector, k: u64) -> Found
+    requires { ⌜ Acceptable j × (s < j .m) × (k < pointsOf j) × (entries p ≡ pointOf (box j) k) ⌝ }
     ensures { λ r. ⌜ foundOf r ≡ previous j s k ⌝ }
 {
     let t = job::stream_at(j, s);
-    space::bounds::back(j.bounds, t.d, k)
+    space::bounds::back(j.bounds, t.d, p)
 }
 
-// The incoming value of stream s at the point at place k.
-fn incoming_at(j: Job, input: &[u32], values: &[u32], points: u64, s: u8, k: u64) -> u32
-    requires { ⌜ Ready j (now input) points × Ready j (now values) points × (s < j .m) × (k < points) ⌝ }
+// The incoming value of stream s at p, the point at place k.
+fn incoming_at(j: Job, input: &[u32], values: &[u32], points: u64, s: u8, p: Vector, k: u64) -> u32
+    requires { ⌜ Ready j (now input) points × Ready j (now values) points × (s < j .m) × (k < points) × (entries p ≡ pointOf (box j) k) ⌝ }
     ensures { λ r. ⌜ r ≡ incoming j (now (input .entry)) (now (values .entry)) s k ⌝ }
 {
-    let found = previous_at(j, s, k);
+    let found = previous_at(j, s, p, k);
     match found {
         Found::At(q) => {
             let i = place_in_table(s, points, q);
@@ -84,16 +87,16 @@ fn incoming_at(j: Job, input: &[u32], values: &[u32], points: u64, s: u8, k: u64
     }
 }
 
-// The incoming values of all streams at the point at place k.
-fn incoming_all(j: Job, input: &[u32], values: &[u32], points: u64, k: u64) -> [u32; 4]
-    requires { ⌜ Ready j (now input) points × Ready j (now values) points × (k < points) ⌝ }
+// The incoming values of all streams at p, the point at place k.
+fn incoming_all(j: Job, input: &[u32], values: &[u32], points: u64, p: Vector, k: u64) -> [u32; 4]
+    requires { ⌜ Ready j (now input) points × Ready j (now values) points × (k < points) × (entries p ≡ pointOf (box j) k) ⌝ }
     ensures { λ r. ⌜ ((s : ℕ) → s < j .m → getD r s 0 ≡ incoming j (now (input .entry)) (now (values .entry)) s k) ⌝ }
 {
     let m = j.m;
     let mut got = [0u32; 4];
     let mut s: u8 = 0;
     while s < m {
-        let v = incoming_at(j, input, values, points, s, k);
+        let v = incoming_at(j, input, values, points, s, p, k);
         let i = s as usize;
         got[i] = v;
         s += 1;
@@ -122,10 +125,13 @@ fn fill(j: Job, input: &[u32], values: &mut [u32], points: u64)
     requires { ⌜ Ready j (now input) points × Ready j (now values) points ⌝ }
     ensures { λ _. ⌜ Looped j (now (input .entry)) (now (values .exit)) ⌝ }
 {
+    let b = j.bounds;
+    let mut p = space::bounds::point(b, 0);
     let mut k: u64 = 0;
     while k < points {
-        let got = incoming_all(j, input, &values[..], points, k);
+        let got = incoming_all(j, input, &values[..], points, p, k);
         put_column(j, &mut values[..], points, k, got);
+        p = space::bounds::next(b, p);
         k += 1;
     }
 }

@@ -6,6 +6,7 @@ pub mod DivisorLaws
 pub mod MultipleLaws
 pub mod OrderLaws
 pub mod BoxLaws
+pub mod NextLaws
 pub mod ExtremeLaws
 pub mod Digits
 pub mod PairLaws

@@ -3,7 +3,7 @@ use mathlib.Core.Path.{_≡_}
 use mathlib.Core.Bool.{Bool, true, false, cond, _&&_}
 use mathlib.Core.List.{List, [], _∷_}
 use mathlib.Core.Option.{Option, none, some}
-use Prim.Native.Nat.{ℕ, _+_, _*_, _/_, _%_}
+use Prim.Native.Nat.{ℕ, _+_, _*_, _/_, _%_, _<_}
 use lib.ListN.{length}
 use lib.IntN.{ℤ, pos, negsuc, _+ℤ_}
 use lib.Signed.{_≤ℤ_, leZ, ltZ}
@@ -66,6 +66,10 @@ placeOf (s ∷ ss) (x ∷ xs) = steps (s .low) x * countOf ss + placeOf ss xs
 unfoldable pub pointOf : Box → ℕ → List ℤ
 pointOf [] k = []
 pointOf (s ∷ ss) k = (s .low +ℤ pos (k / countOf ss)) ∷ pointOf ss (k % countOf ss)
+
+-- p is the point at place k, if there is one
+abbrev pub PointAt : Box → ℕ → List ℤ → Type 0
+PointAt B k p = k < countOf B → p ≡ pointOf B k
 
 -- whether x is a point of the box
 abbrev pub inside : Box → List ℤ → Bool

@@ -3,13 +3,13 @@ use crate::Vector;
 ghost use mathlib.Core.Path.{_≡_};
 ghost use mathlib.Core.Bool.{cond};
 ghost use mathlib.Core.List.{List, [], _∷_, map, zipWith};
-ghost use Prim.Native.Nat.{_*_, _<_, _≤_};
+ghost use Prim.Native.Nat.{ℕ, _+_, _*_, _<_, _≤_};
 ghost use lib.IntN.{ℤ, pos};
 ghost use lib.Signed.{ltZ, _≤ℤ_};
 ghost use Rattle.space.specs.Numbers.{Size, Tells, steps, coordinate, difference, limit};
 ghost use Rattle.space.specs.Vectors.{entries, dotOf, plusOf, Sized};
 ghost use Rattle.space.specs.Order.{AtMost};
-ghost use Rattle.space.specs.Boxes.{In, Apart, Solid, boxOf, across, countOf, placeOf, pointOf, backOf, foundOf, Least, Greatest};
+ghost use Rattle.space.specs.Boxes.{In, Apart, Solid, boxOf, across, countOf, placeOf, pointOf, PointAt, backOf, foundOf, Least, Greatest};
 
 // The bounds of a box, l and u of each dimension. An unused dimension is 0..0.
 pub struct Bounds {
@@ -70,14 +70,53 @@ pub fn point(b: Bounds, k: u64) -> Vector
     crate::plus(l, offset(k, lengths(b)))
 }
 
-// The place of x - d for the point x at place k, if it is in the box.
-pub fn back(b: Bounds, d: Vector, k: u64) -> Found
-    requires { ⌜ Sized difference (entries (b .low)) × Sized difference (entries (b .high)) × Sized difference (entries d) × (k < countOf (boxOf b)) ⌝ }
-    ensures { λ r. ⌜ foundOf r ≡ backOf (boxOf b) (entries d) k ⌝ }
+// The point after p in box order. After the last there is none, and the answer is any.
+pub fn next(b: Bounds, p: Vector) -> Vector
+    requires { ⌜ Sized difference (entries (b .low)) × Sized difference (entries (b .high)) × In (boxOf b) (entries p) ⌝ }
+    ensures { λ r. ⌜ ((k : ℕ) → entries p ≡ pointOf (boxOf b) k → PointAt (boxOf b) (k + 1) (entries r)) ⌝ }
 {
-    let p = crate::minus(point(b, k), d);
-    if contains(b, p) {
-        Found::At(place(b, p))
+    let l = b.low;
+    let u = b.high;
+    if p.x3 < u.x3 {
+        return Vector {
+            x0: p.x0,
+            x1: p.x1,
+            x2: p.x2,
+            x3: p.x3 + 1,
+        };
+    }
+    if p.x2 < u.x2 {
+        return Vector {
+            x0: p.x0,
+            x1: p.x1,
+            x2: p.x2 + 1,
+            x3: l.x3,
+        };
+    }
+    if p.x1 < u.x1 {
+        return Vector {
+            x0: p.x0,
+            x1: p.x1 + 1,
+            x2: l.x2,
+            x3: l.x3,
+        };
+    }
+    Vector {
+        x0: p.x0 + 1,
+        x1: l.x1,
+        x2: l.x2,
+        x3: l.x3,
+    }
+}
+
+// The place of p - d for a point p of the box, if it is in the box.
+pub fn back(b: Bounds, d: Vector, p: Vector) -> Found
+    requires { ⌜ Sized difference (entries (b .low)) × Sized difference (entries (b .high)) × Sized difference (entries d) × In (boxOf b) (entries p) ⌝ }
+    ensures { λ r. ⌜ ((k : ℕ) → entries p ≡ pointOf (boxOf b) k → foundOf r ≡ backOf (boxOf b) (entries d) k) ⌝ }
+{
+    let q = crate::minus(p, d);
+    if contains(b, q) {
+        Found::At(place(b, q))
     } else {
         Found::Nowhere
     }

@@ -78,6 +78,9 @@ count-most (s ∷ ss) w = mul-le-mul (across-size s (w .0) (w .1)) (count-most s
 pub gap-sized : (d : Bounds) (i : ℕ) (y : List ℤ) → Sized difference (entries (d .low)) → Sized difference (entries (d .high)) → i < countOf (boxOf d) → y ≡ pointOf (boxOf d) i → Sized difference y
 gap-sized d i y l u k e = subst (Sized difference) (sym e) (in-sized difference (boxOf d) (pointOf (boxOf d) i) (sides-sized d l u) (point-in (boxOf d) i k))
 
+pub gap-in : (D : Box) (i : ℕ) (y : List ℤ) → i < countOf D → y ≡ pointOf D i → In D y
+gap-in D i y k e = subst (In D) (sym e) (point-in D i k)
+
 -- ---- D is the box of the differences of two points of B
 pub record Spread (B D : Box) : Type 0 where
   pub apart : (y : List ℤ) → In D y → Apart B y

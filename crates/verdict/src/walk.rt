@@ -1,6 +1,7 @@
 // The walk over the differences of the box: which of them bring two points into one cell, or two tokens together.
 use crate::course::Course;
 use job::Job;
+use job::Stream;
 use space::Vector;
 use space::bounds::Bounds;
 use space::multiple::Multiple;
@@ -11,10 +12,10 @@ ghost use lib.IntN.{ℤ};
 ghost use Rattle.space.specs.Numbers.{Tells, difference, limit};
 ghost use Rattle.space.specs.Vectors.{entries, Sized};
 ghost use Rattle.space.specs.Multiples.{NonZero};
-ghost use Rattle.space.specs.Boxes.{In, boxOf, placeOf};
+ghost use Rattle.space.specs.Boxes.{In, boxOf, placeOf, PointAt};
 ghost use Rattle.job.specs.Record.{zeroVector};
 ghost use Rattle.job.specs.Limits.{Acceptable};
-ghost use Rattle.verdict.specs.Mapping.{box, Stationary};
+ghost use Rattle.verdict.specs.Mapping.{box, stream, Stationary};
 ghost use Rattle.verdict.specs.Rules.{Collide, senders};
 ghost use Rattle.verdict.specs.Courses.{Runs};
 ghost use Rattle.verdict.specs.Searches.{Still, MetAt, Meets, Finds-gap};
@@ -45,11 +46,18 @@ pub fn meeting(j: Job, s: u8, c: Course, y: Vector) -> Met
     requires { ⌜ Acceptable j × (s < j .m) × (Stationary j s → ⊥) × Runs j s c × Sized difference (entries y) ⌝ }
     ensures { λ r. ⌜ MetAt j s (entries y) r ⌝ }
 {
+    meeting_of(j, s, job::stream_at(j, s), c, y)
+}
+
+// The same, where t is the stream.
+fn meeting_of(j: Job, s: u8, t: Stream, c: Course, y: Vector) -> Met
+    requires { ⌜ Acceptable j × (s < j .m) × (Stationary j s → ⊥) × Runs j s c × Sized difference (entries y) × (t ≡ stream j s) ⌝ }
+    ensures { λ r. ⌜ MetAt j s (entries y) r ⌝ }
+{
     let unit = c.unit;
     let Multiple::Times(f) = space::multiple::multiple_of(crate::course::placed(j, y), unit) else {
         return Met::Apart;
     };
-    let t = job::stream_at(j, s);
     if is_collision(t.kind, t.d, c.g, y, f) {
         Met::Hops(f)
     } else {
@@ -94,6 +102,20 @@ fn first_place(b: Bounds) -> u64
     space::bounds::place(b, zero) + 1
 }
 
+// That difference itself, where there is one.
+fn first_gap(b: Bounds) -> Vector
+    requires { ⌜ Sized difference (entries (b .low)) × Sized difference (entries (b .high)) × In (boxOf b) (entries zeroVector) ⌝ }
+    ensures { λ r. ⌜ PointAt (boxOf b) (placeOf (boxOf b) (entries zeroVector) + 1) (entries r) ⌝ }
+{
+    let zero = Vector {
+        x0: 0,
+        x1: 0,
+        x2: 0,
+        x3: 0,
+    };
+    space::bounds::next(b, zero)
+}
+
 // The first difference at which two points of the box share cell and tick.
 pub fn cell_gap(j: Job) -> Gap
     requires { ⌜ Acceptable j ⌝ }
@@ -102,11 +124,12 @@ pub fn cell_gap(j: Job) -> Gap
     let b = space::bounds::differences(j.bounds);
     let n = space::bounds::count(b);
     let mut i = first_place(b);
+    let mut y = first_gap(b);
     while i < n {
-        let y = space::bounds::point(b, i);
         if is_still(j, y) {
             return Gap::At(y);
         }
+        y = space::bounds::next(b, y);
         i += 1;
     }
     Gap::Nowhere
@@ -117,14 +140,16 @@ pub fn link_gap(j: Job, s: u8, c: Course) -> Gap
     requires { ⌜ Acceptable j × (s < j .m) × (Stationary j s → ⊥) × Runs j s c ⌝ }
     ensures { λ r. ⌜ Finds-gap (λ (y : List ℤ). (f : ℤ) × Meets j s y f) (senders j s) r ⌝ }
 {
+    let t = job::stream_at(j, s);
     let b = space::bounds::differences(j.bounds);
     let n = space::bounds::count(b);
     let mut i = first_place(b);
+    let mut y = first_gap(b);
     while i < n {
-        let y = space::bounds::point(b, i);
-        if let Met::Hops(_f) = meeting(j, s, c, y) {
+        if let Met::Hops(_f) = meeting_of(j, s, t, c, y) {
             return Gap::At(y);
         }
+        y = space::bounds::next(b, y);
         i += 1;
     }
     Gap::Nowhere

@@ -12,7 +12,7 @@ use Rattle.array.specs.Runs.{runChecks}
 use Rattle.array.specs.Steps.{Lacks}
 use Rattle.array.proofs.FrameLaws.{sizes-room, sizes-ticks}
 use Rattle.array.proofs.RunLaws.{clear-size, ran-as}
-use Rattle.array.proofs.ReplyLaws.{not-accepted, accepted-limits, passed, lacks-refuses, tables-tabled, places-roomy}
+use Rattle.array.proofs.ReplyLaws.{not-accepted, accepted-limits, accepted-frames, passed, lacks-refuses, tables-tabled, places-roomy}
 use Rattle.array.proofs.run_of.Statement.{statement}
 use Rattle.array.proofs.run_of.Tie as tie
 
@@ -49,7 +49,7 @@ taken : (c : tie.After-known-told2) → Lacks (runChecks (c .before .before .bef
 taken c = subst (Lacks _ _) (c .before .reply .given .1) (c .before .before .before .lacking .ensures)
 
 frame-of-requires : tie.Need-frame-of-requires
-frame-of-requires c κs = accepted-limits (says (c .before .before .before .before))
+frame-of-requires c κs = accepted-frames (says (c .before .before .before .before))
 
 -- there are as many places
 roomy : (c : tie.After-known-told2) → c .before .before .before .before .before .v .given .0 .0 .room ≤ length (now (c .before .before .before .before .before .before .before .before .before .before .before .args .places))

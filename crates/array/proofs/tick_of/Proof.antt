@@ -12,7 +12,7 @@ use Rattle.verdict.specs.declared.Verdict.the-variants.{Accepted}
 use Rattle.array.specs.declared.Reply.the-variants.{Ticks}
 use Rattle.array.specs.Runs.{runChecks, tickChecks}
 use Rattle.array.specs.Steps.{Lacks}
-use Rattle.array.proofs.ReplyLaws.{not-accepted, accepted-limits, lacks-refuses, tick-late, tick-taken, tables-tabled, places-roomy}
+use Rattle.array.proofs.ReplyLaws.{not-accepted, accepted-limits, accepted-frames, lacks-refuses, tick-late, tick-taken, tables-tabled, places-roomy}
 use Rattle.array.proofs.tick_of.Statement.{statement}
 use Rattle.array.proofs.tick_of.Tie as tie
 
@@ -52,7 +52,7 @@ returns-3 : tie.Need-returns-3
 returns-3 c = (_, record { accepted = says (c .before .before .before .before .before); first = tick-late (says (c .before .before .before .before .before)) (taken (c .before) .0) _ (omega (arith, c .if1 .taken, taken (c .before) .1)) }, (refl, refl))
 
 frame-of-requires : tie.Need-frame-of-requires
-frame-of-requires c κs = accepted-limits (says (c .before .before .before .before .before))
+frame-of-requires c κs = accepted-frames (says (c .before .before .before .before .before))
 
 one-tick-requires : tie.Need-one-tick-requires
 one-tick-requires c κs =

@@ -9,7 +9,7 @@ use Rattle.verdict.specs.Replies.{Says}
 use Rattle.verdict.specs.declared.Verdict.the-variants.{Accepted}
 use Rattle.verdict.proofs.Fits.{low-sized, high-sized}
 use Rattle.array.specs.Ticks.{works, pointAt}
-use Rattle.array.proofs.ReplyLaws.{not-accepted, accepted-limits}
+use Rattle.array.proofs.ReplyLaws.{not-accepted, accepted-limits, accepted-frames}
 use Rattle.array.proofs.PointLaws.{last-below}
 use Rattle.array.proofs.lookup.point_at.Statement.{statement}
 use Rattle.array.proofs.lookup.point_at.Tie as tie
@@ -28,7 +28,7 @@ says : (c : tie.After-known-told) → Says (c .before .before .before .before .a
 says c = subst (Says (c .before .before .before .before .args .j)) (c .before .v .given .1) (c .before .before .before .verdict-of .ensures)
 
 frame-of-requires : tie.Need-frame-of-requires
-frame-of-requires c κs = accepted-limits (says c)
+frame-of-requires c κs = accepted-frames (says c)
 
 place-at-requires : tie.Need-place-at-requires
 place-at-requires c κs = (accepted-limits (says (c .before)), c .frame-of .ensures)

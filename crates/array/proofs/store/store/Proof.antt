@@ -4,7 +4,8 @@ use native.Mathlib.Omega.{arith}
 use lib.ListN.{length}
 use denote.Ref.{now}
 use Rattle.loops.proofs.LoopLaws.{few-streams}
-use Rattle.array.proofs.LendingLaws.{band-fits, some-delay, band-lent}
+use Rattle.array.specs.Steps.{Banded}
+use Rattle.array.proofs.LendingLaws.{band-is, band-fits, some-delay, band-lent}
 use Rattle.array.proofs.StoreLaws.{Storing, store-start, store-step, store-end, still-roomy}
 use Rattle.array.proofs.store.store.Statement.{statement}
 use Rattle.array.proofs.store.store.Tie as tie
@@ -18,20 +19,24 @@ abbrev μ-loop : tie.MeasureT-loop
 loop-holds : tie.Need-loop-holds Inv-loop μ-loop
 loop-holds c = let a = c .before .before .args in store-start (a .j) (a .t) (now (a .values)) (now (a .places))
 
-band-of-requires : tie.Need-band-of-requires Inv-loop μ-loop
-band-of-requires c κs = let q = c .before .before .before .before .pre in (q .0 .runnable, q .0 .framed, c .loop-test .taken)
+band-at-requires : tie.Need-band-at-requires Inv-loop μ-loop
+band-at-requires c κs = let n = few-streams (c .before .before .before .before .pre .0 .runnable .acceptable) in omega (arith, c .loop-test .taken)
+
+-- its band
+banded : (c : tie.After-band-at Inv-loop μ-loop) → Banded (c .before .before .before .before .before .args .j) (c .before .before .loop .s) (c .band-at .result)
+banded c = band-is (c .before .before .before .before .before .pre .0 .framed) (c .before .loop-test .taken) (c .band-at .ensures)
 
 -- the band lies in the places, they are few, and w is not 0
 fits : (c : tie.After-struct-known2 Inv-loop μ-loop)
-    → (c .before .before .before .before .loop .from + c .before .before .before .before .before .before .before .args .f .cells * c .before .before .band-of .result .w ≤ length (c .before .before .before .before .loop .places))
-    × (c .before .before .before .before .loop .from + c .before .before .before .before .before .before .before .args .f .cells * c .before .before .band-of .result .w ≤ 8192)
-    × (0 < c .before .before .band-of .result .w)
+    → (c .before .before .before .before .loop .from + c .before .before .before .before .before .before .before .args .f .cells * c .before .before .band-at .result .w ≤ length (c .before .before .before .before .loop .places))
+    × (c .before .before .before .before .loop .from + c .before .before .before .before .before .before .before .args .f .cells * c .before .before .band-at .result .w ≤ 8192)
+    × (0 < c .before .before .band-at .result .w)
 fits c =
     let a = c .before .before .before .before .before .before .before .args in
     let q = c .before .before .before .before .before .before .before .pre in
     let l = c .before .before .before .before .loop in
-    let i = band-fits (q .0 .runnable) (c .before .before .before .loop-test .taken) (c .before .before .band-of .ensures) (l .inv .begin) (q .0 .framed .cells) (l .places) (still-roomy (l .inv .stored) (q .1)) in
-    (i .0, i .1, some-delay (q .0 .runnable) (c .before .before .before .loop-test .taken) (c .before .before .band-of .ensures) (l .inv .begin) (q .0 .framed .cells))
+    let i = band-fits (q .0 .runnable) (c .before .before .before .loop-test .taken) (banded (c .before .before)) (l .inv .begin) (q .0 .framed .cells) (l .places) (still-roomy (l .inv .stored) (q .1)) in
+    (i .0, i .1, some-delay (q .0 .runnable) (c .before .before .before .loop-test .taken) (banded (c .before .before)) (l .inv .begin) (q .0 .framed .cells))
 
 mul-end : tie.Need-mul-end Inv-loop μ-loop
 mul-end c = let i = fits c in omega arith
@@ -59,7 +64,7 @@ store-band-requires c κs =
     let a = c .before .before .before .before .before .before .before .before .before .args in
     let q = c .before .before .before .before .before .before .before .before .before .pre in
     let l = c .before .before .before .before .before .before .loop in
-    (q .0, c .before .before .before .before .before .loop-test .taken, band-lent (q .0 .runnable) (c .before .before .before .before .before .loop-test .taken) (c .before .before .before .before .band-of .ensures) (l .inv .begin) (q .0 .framed .cells) (l .places) (still-roomy (l .inv .stored) (q .1)) (a .t))
+    (q .0, c .before .before .before .before .before .loop-test .taken, band-lent (q .0 .runnable) (c .before .before .before .before .before .loop-test .taken) (banded (c .before .before .before .before)) (l .inv .begin) (q .0 .framed .cells) (l .places) (still-roomy (l .inv .stored) (q .1)) (a .t))
 
 add-s : tie.Need-add-s Inv-loop μ-loop
 add-s c = omega (arith, c .before .before .before .before .before .before .before .before .loop-test .taken, few-streams (c .before .before .before .before .before .before .before .before .before .before .before .before .pre .0 .runnable .acceptable))
@@ -72,7 +77,7 @@ loop-again c =
     let a = c .before .before .before .before .before .before .before .before .before .before .before .before .args in
     let q = c .before .before .before .before .before .before .before .before .before .before .before .before .pre in
     let l = c .before .before .before .before .before .before .before .before .before .loop in
-    store-step (a .j) (q .0 .runnable) (l .s) (c .before .before .before .before .before .before .before .before .loop-test .taken) (c .before .before .before .before .before .before .before .band-of .result) (c .before .before .before .before .before .before .before .band-of .ensures) (l .from) (a .f .cells) (l .inv .begin) (q .0 .framed .cells) (a .t) (now (a .values)) (now (a .places)) (l .places) (c .before .before .store-band .last .1 .1 .1 .1 .1 .1 .1 .0) (q .1) (l .inv .stored) (c .before .before .store-band .ensures)
+    store-step (a .j) (q .0 .runnable) (l .s) (c .before .before .before .before .before .before .before .before .loop-test .taken) (c .before .before .before .before .before .before .before .band-at .result) (banded (c .before .before .before .before .before .before .before)) (l .from) (a .f .cells) (l .inv .begin) (q .0 .framed .cells) (a .t) (now (a .values)) (now (a .places)) (l .places) (c .before .before .store-band .last .1 .1 .1 .1 .1 .1 .1 .0) (q .1) (l .inv .stored) (c .before .before .store-band .ensures)
 
 same-length : tie.Need-same-length Inv-loop μ-loop
 same-length c = c .before .loop .inv .stored .size
@@ -90,7 +95,7 @@ store-spec =
     Inv-loop
     μ-loop
     loop-holds
-    band-of-requires
+    band-at-requires
     mul-end
     add-end
     rem-store-band

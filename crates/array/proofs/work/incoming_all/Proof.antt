@@ -7,25 +7,33 @@ use denote.Ref.{now}
 use Rattle.loops.proofs.LoopLaws.{few-streams, Firsts, firsts-step}
 use Rattle.array.specs.Frames.{from as fromOf}
 use Rattle.array.specs.Ticks.{incoming}
-use Rattle.array.proofs.LendingLaws.{from-first, band-fits, band-next}
+use Rattle.array.specs.Steps.{Banded}
+use Rattle.array.proofs.LendingLaws.{band-is, from-first, band-fits, band-next}
 use Rattle.array.proofs.work.incoming_all.Statement.{statement}
 use Rattle.array.proofs.work.incoming_all.Tie as tie
 
 abbrev Inv-loop : tie.InvT-loop
-Inv-loop j f t input places x k m got₀ from₀ s₀ got from s = (from ≡ fromOf j s) × Firsts (λ (u : ℕ). incoming j input t places u x k) got s
+Inv-loop j f t input places x p k m got₀ from₀ s₀ got from s = (from ≡ fromOf j s) × Firsts (λ (u : ℕ). incoming j input t places u x k) got s
 
 abbrev μ-loop : tie.MeasureT-loop
-μ-loop j f t input places x k m got₀ from₀ s₀ got from s = m - s
+μ-loop j f t input places x p k m got₀ from₀ s₀ got from s = m - s
 
 loop-holds : tie.Need-loop-holds Inv-loop μ-loop
 loop-holds c = (from-first (c .before .before .args .j), record { four = refl; done = λ u lu. absurd (omega arith) })
 
+band-at-requires : tie.Need-band-at-requires Inv-loop μ-loop
+band-at-requires c κs = let n = few-streams (c .before .before .before .before .pre .0 .runnable .acceptable) in omega (arith, c .loop-test .taken)
+
+-- its band
+banded : (c : tie.After-band-at Inv-loop μ-loop) → Banded (c .before .before .before .before .before .args .j) (c .before .before .loop .s) (c .band-at .result)
+banded c = band-is (c .before .before .before .before .before .pre .0 .framed) (c .before .loop-test .taken) (c .band-at .ensures)
+
 incoming-at-requires : tie.Need-incoming-at-requires Inv-loop μ-loop
-incoming-at-requires c κs = let p = c .before .before .before .before .pre in (p .0, p .1, c .loop-test .taken, c .before .loop .inv .0, p .2, p .3)
+incoming-at-requires c κs = let p = c .before .before .before .before .before .pre in (p .0, p .1, c .before .loop-test .taken, c .before .before .loop .inv .0, p .2, p .3, banded c, p .4)
 
 -- fewer than four
-small : (c : tie.After-incoming-at Inv-loop μ-loop) → c .before .before .loop .s < 4
-small c = let m = few-streams (c .before .before .before .before .before .pre .0 .runnable .acceptable) in omega (arith, c .before .loop-test .taken)
+small : (c : tie.After-incoming-at Inv-loop μ-loop) → c .before .before .before .loop .s < 4
+small c = let m = few-streams (c .before .before .before .before .before .before .pre .0 .runnable .acceptable) in omega (arith, c .before .before .loop-test .taken)
 
 cast-i : tie.Need-cast-i Inv-loop μ-loop
 cast-i c = omega (arith, small c)
@@ -36,15 +44,12 @@ mul-got c = omega (arith, small c)
 array-write-got : tie.Need-array-write-got Inv-loop μ-loop
 array-write-got c = omega (arith, small c)
 
-band-of-requires : tie.Need-band-of-requires Inv-loop μ-loop
-band-of-requires c κs = let p = c .before .before .before .before .before .pre in (p .0 .runnable, p .0 .framed, c .before .loop-test .taken)
-
 -- the band lies in the places, and they are few
-fits : (c : tie.After-struct-known2 Inv-loop μ-loop) → (c .before .before .before .before .before .loop .from + c .before .before .before .before .before .before .before .before .args .f .cells * c .before .before .band-of .result .w ≤ length (now (c .before .before .before .before .before .before .before .before .args .places))) × (c .before .before .before .before .before .loop .from + c .before .before .before .before .before .before .before .before .args .f .cells * c .before .before .band-of .result .w ≤ 8192)
+fits : (c : tie.After-struct-known2 Inv-loop μ-loop) → (c .before .before .before .before .before .loop .from + c .before .before .before .before .before .before .before .before .args .f .cells * c .before .before .before .band-at .result .w ≤ length (now (c .before .before .before .before .before .before .before .before .args .places))) × (c .before .before .before .before .before .loop .from + c .before .before .before .before .before .before .before .before .args .f .cells * c .before .before .before .band-at .result .w ≤ 8192)
 fits c =
     let a = c .before .before .before .before .before .before .before .before .args in
     let p = c .before .before .before .before .before .before .before .before .pre in
-    band-fits (p .0 .runnable) (c .before .before .before .before .loop-test .taken) (c .before .before .band-of .ensures) (c .before .before .before .before .before .loop .inv .0) (p .0 .framed .cells) (now (a .places)) (p .1)
+    band-fits (p .0 .runnable) (c .before .before .before .before .loop-test .taken) (banded (c .before .before .before)) (c .before .before .before .before .before .loop .inv .0) (p .0 .framed .cells) (now (a .places)) (p .1)
 
 mul-from : tie.Need-mul-from Inv-loop μ-loop
 mul-from c = let i = fits c in omega arith
@@ -53,7 +58,7 @@ add-from : tie.Need-add-from Inv-loop μ-loop
 add-from c = let i = fits c in omega arith
 
 add-s : tie.Need-add-s Inv-loop μ-loop
-add-s c = omega (arith, small (c .before .before .before))
+add-s c = omega (arith, small (c .before .before))
 
 loop-less : tie.Need-loop-less Inv-loop μ-loop
 loop-less c = omega arith
@@ -62,10 +67,10 @@ loop-again : tie.Need-loop-again Inv-loop μ-loop
 loop-again c =
     let p = c .before .before .before .before .before .before .before .before .pre in
     let l = c .before .before .before .before .before .loop in
-    (band-next (p .0 .runnable) (c .before .before .before .before .loop-test .taken) (c .before .before .band-of .ensures) (l .inv .0) (p .0 .framed .cells), firsts-step (c .before .before .before .incoming-at .result) (l .inv .1) (small (c .before .before .before)) (c .before .before .before .incoming-at .ensures))
+    (band-next (p .0 .runnable) (c .before .before .before .before .loop-test .taken) (banded (c .before .before .before)) (l .inv .0) (p .0 .framed .cells), firsts-step (c .before .before .incoming-at .result) (l .inv .1) (small (c .before .before)) (c .before .before .incoming-at .ensures))
 
 returns : tie.Need-returns Inv-loop μ-loop
 returns c = λ s ls. c .before .loop .inv .1 .done s (omega (arith, c .loop-test .left))
 
 pub incoming-all-spec : {M : Type 1} → statement M
-incoming-all-spec = tie.close (tie.spec Inv-loop μ-loop loop-holds incoming-at-requires cast-i mul-got array-write-got band-of-requires mul-from add-from add-s loop-less loop-again returns)
+incoming-all-spec = tie.close (tie.spec Inv-loop μ-loop loop-holds band-at-requires incoming-at-requires cast-i mul-got array-write-got mul-from add-from add-s loop-less loop-again returns)

@@ -19,15 +19,12 @@ previous-at-requires c κs = search needs
 enum-known-found : tie.Need-enum-known-found
 enum-known-found c = search needs
 
-band-of-requires : tie.Need-band-of-requires
-band-of-requires c κs = search needs
-
 -- the band lies in the places, and they are few
-fits : (c : tie.After-struct-known2) → (c .before .before .before .before .before .before .before .before .before .args .from + c .before .before .before .before .before .before .before .before .before .args .f .cells * c .before .before .band-of .result .w ≤ length (now (c .before .before .before .before .before .before .before .before .before .args .places))) × (c .before .before .before .before .before .before .before .before .before .args .from + c .before .before .before .before .before .before .before .before .before .args .f .cells * c .before .before .band-of .result .w ≤ 8192)
+fits : (c : tie.After-struct-known2) → (c .before .before .before .before .before .before .before .before .args .from + c .before .before .before .before .before .before .before .before .args .f .cells * c .before .before .before .before .before .before .before .before .args .b .w ≤ length (now (c .before .before .before .before .before .before .before .before .args .places))) × (c .before .before .before .before .before .before .before .before .args .from + c .before .before .before .before .before .before .before .before .args .f .cells * c .before .before .before .before .before .before .before .before .args .b .w ≤ 8192)
 fits c =
-    let a = c .before .before .before .before .before .before .before .before .before .args in
-    let p = c .before .before .before .before .before .before .before .before .before .pre in
-    band-fits (p .0 .runnable) (p .2) (c .before .before .band-of .ensures) (p .3) (p .0 .framed .cells) (now (a .places)) (p .1)
+    let a = c .before .before .before .before .before .before .before .before .args in
+    let p = c .before .before .before .before .before .before .before .before .pre in
+    band-fits (p .0 .runnable) (p .2) (p .6) (p .3) (p .0 .framed .cells) (now (a .places)) (p .1)
 
 mul-end : tie.Need-mul-end
 mul-end c = let i = fits c in omega arith
@@ -49,15 +46,15 @@ part-arriving-end c = let i = fits c in omega arith
 
 rem-arriving : tie.Need-rem-arriving
 rem-arriving c =
-    let p = c .before .before .before .before .before .before .before .before .before .before .before .pre in
-    some-delay (p .0 .runnable) (p .2) (c .before .before .before .before .band-of .ensures) (p .3) (p .0 .framed .cells)
+    let p = c .before .before .before .before .before .before .before .before .before .before .pre in
+    some-delay (p .0 .runnable) (p .2) (p .6) (p .3) (p .0 .framed .cells)
 
 arriving-requires : tie.Need-arriving-requires
 arriving-requires c κs =
-    let a = c .before .before .before .before .before .before .before .before .before .before .before .args in
-    let p = c .before .before .before .before .before .before .before .before .before .before .before .pre in
-    let e = ap countOf (c .before .before .before .before .band-of .ensures .rectangle) in
-    (lent (p .0 .runnable) (p .2) (c .before .before .before .before .band-of .ensures) (p .3) (p .0 .framed .cells) (now (a .places)) (p .1) (a .t), omega (arith, p .4))
+    let a = c .before .before .before .before .before .before .before .before .before .before .args in
+    let p = c .before .before .before .before .before .before .before .before .before .before .pre in
+    let e = ap countOf (p .6 .rectangle) in
+    (lent (p .0 .runnable) (p .2) (p .6) (p .3) (p .0 .framed .cells) (now (a .places)) (p .1) (a .t), omega (arith, p .4))
 
 enum-told : tie.Need-enum-told
 enum-told c = search needs
@@ -80,11 +77,11 @@ shared-slice-read-result c =
 
 returns : tie.Need-returns
 returns c =
-    let a = c .before .before .before .before .before .before .before .before .before .before .before .before .args in
-    let p = c .before .before .before .before .before .before .before .before .before .before .before .before .pre in
+    let a = c .before .before .before .before .before .before .before .before .before .before .before .args in
+    let p = c .before .before .before .before .before .before .before .before .before .before .before .pre in
     c .arriving .ensures
-    ∙ arrives (p .0 .runnable) (p .2) (c .before .before .before .before .before .band-of .ensures) (p .3) (p .0 .framed .cells) (now (a .places)) (a .t) (a .x)
-    ∙ incoming-some (a .j) (now (a .input)) (a .t) (now (a .places)) (a .s) (a .x) (a .k) (c .before .before .before .before .before .before .before .found .given .0 .0) (sym (c .before .before .before .before .before .before .before .before .before .previous-at .ensures) ∙ ap foundOf (c .before .before .before .before .before .before .before .found .given .1))
+    ∙ arrives (p .0 .runnable) (p .2) (p .6) (p .3) (p .0 .framed .cells) (now (a .places)) (a .t) (a .x)
+    ∙ incoming-some (a .j) (now (a .input)) (a .t) (now (a .places)) (a .s) (a .x) (a .k) (c .before .before .before .before .before .before .found .given .0 .0) (sym (c .before .before .before .before .before .before .before .before .previous-at .ensures) ∙ ap foundOf (c .before .before .before .before .before .before .found .given .1))
 
 returns-2 : tie.Need-returns-2
 returns-2 c =
@@ -92,4 +89,4 @@ returns-2 c =
     ap (λ i. getD (now (a .input)) i 0) (there (c .before)) ∙ incoming-none (a .j) (now (a .input)) (a .t) (now (a .places)) (a .s) (a .x) (a .k) (sym (c .before .before .before .before .previous-at .ensures) ∙ ap foundOf (c .before .before .enum-told .given .1))
 
 pub incoming-at-spec : {M : Type 1} → statement M
-incoming-at-spec = tie.close (tie.spec previous-at-requires enum-known-found band-of-requires mul-end add-end mul-arriving sub-arriving part-arriving-start part-arriving-end rem-arriving arriving-requires enum-told place-in-table-requires mul-result shared-slice-read-result returns returns-2)
+incoming-at-spec = tie.close (tie.spec previous-at-requires enum-known-found mul-end add-end mul-arriving sub-arriving part-arriving-start part-arriving-end rem-arriving arriving-requires enum-told place-in-table-requires mul-result shared-slice-read-result returns returns-2)

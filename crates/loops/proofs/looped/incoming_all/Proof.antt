@@ -8,16 +8,16 @@ use Rattle.loops.proofs.looped.incoming_all.Statement.{statement}
 use Rattle.loops.proofs.looped.incoming_all.Tie as tie
 
 abbrev Inv-loop : tie.InvT-loop
-Inv-loop j input values points k m got₀ s₀ got s = Firsts (λ (u : ℕ). incoming j input values u k) got s
+Inv-loop j input values points p k m got₀ s₀ got s = Firsts (λ (u : ℕ). incoming j input values u k) got s
 
 abbrev μ-loop : tie.MeasureT-loop
-μ-loop j input values points k m got₀ s₀ got s = m - s
+μ-loop j input values points p k m got₀ s₀ got s = m - s
 
 loop-holds : tie.Need-loop-holds Inv-loop μ-loop
 loop-holds c = record { four = refl; done = λ u lu. absurd (omega arith) }
 
 incoming-at-requires : tie.Need-incoming-at-requires Inv-loop μ-loop
-incoming-at-requires c κs = let p = c .before .before .before .before .pre in (p .0, p .1, c .loop-test .taken, p .2)
+incoming-at-requires c κs = let p = c .before .before .before .before .pre in (p .0, p .1, c .loop-test .taken, p .2, p .3)
 
 -- fewer than four
 small : (c : tie.After-incoming-at Inv-loop μ-loop) → c .before .before .loop .s < 4

@@ -14,7 +14,7 @@ use Rattle.loops.proofs.looped.incoming_at.Statement.{statement}
 use Rattle.loops.proofs.looped.incoming_at.Tie as tie
 
 previous-at-requires : tie.Need-previous-at-requires
-previous-at-requires c κs = let p = c .before .before .pre in (p .0 .good, p .2, omega (arith, p .0 .count, p .3))
+previous-at-requires c κs = let p = c .before .before .pre in (p .0 .good, p .2, omega (arith, p .0 .count, p .3), p .4)
 
 enum-known-found : tie.Need-enum-known-found
 enum-known-found c = search needs
