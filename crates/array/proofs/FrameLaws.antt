@@ -3,8 +3,10 @@ use mathlib.Core.Path.{_≡_, refl, sym, ap, ap₂, subst, _∙_}
 use mathlib.Core.List.{List}
 use Prim.Native.Nat.{ℕ, _+_, _*_, _<_, _≤_}
 use native.Mathlib.Nat.{mul-le-mul, mul-one, add-zero, le-trans, le-of-eq}
+use native.Mathlib.Decide.{ℕ-discrete}
 use native.Mathlib.Omega.{arith}
-use lib.ListN.{length}
+use lib.ListN.{length, getD, set, length-set}
+use lib.Seq.{getD-set-same, getD-set-other}
 use lib.IntN.{ℤ, pos, _+ℤ_, _-ℤ_}
 use lib.Signed.{_≤ℤ_}
 use Rattle.space.specs.Numbers.{Size, limit, entry, coordinate, up, steps}
@@ -24,6 +26,7 @@ use Rattle.verdict.specs.declared.Size.{Size as Counts}
 use Rattle.verdict.proofs.Fits.{solid, row0-sized, row1-sized, low-sized, high-sized}
 use Rattle.verdict.proofs.SizeLaws.{greatest-size}
 use Rattle.loops.specs.Tables.{points}
+use Rattle.array.specs.Steps.{Timed}
 use Rattle.array.specs.Frames.{reach, rectangle, cells, clock, ticks, tickOf, cellOf, room}
 
 -- ---- a small number that is read back
@@ -134,3 +137,12 @@ module _ (j : Job) (a : Acceptable j) where
 
   pub cells-small : cells j ≤ 16752649 * 16752649
   cells-small = le-trans (le-of-eq cells-are) (mul-le-mul (across-small (entries (j .row0)) refl (row0-sized j a)) (across-small (entries (j .row1)) refl (row1-sized j a)))
+
+-- ---- the timetable
+-- one more tick is written
+pub timed-step : {j : Job} {k v : ℕ} {l : List ℕ} → Timed j k l → k < points j → v ≡ tickOf j k → Timed j (k + 1) (set l k v)
+timed-step {j} {k} {v} {l} T h e = record { size = rw (length-set l k v) (T .size); ticks = λ i li. here i li (ℕ-discrete i k) }
+  where
+    here : (i : ℕ) → i < k + 1 → Dec (i ≡ k) → getD (set l k v) i 0 ≡ tickOf j i
+    here i li (yes d) = rw d (getD-set-same l k v 0 (omega (arith, T .size)) ∙ e)
+    here i li (no ne) = getD-set-other l k i v 0 ne ∙ T .ticks i (omega arith)

@@ -37,6 +37,10 @@ module _ {j : Job} {input : List ℕ} {t : ℕ} {places : List ℕ} where
     spared = λ s q ls lq ne. c .others s q ls lq (λ e. ne e et);
   }
 
+  -- another tick: nothing is altered
+  pub point-idle : {k : ℕ} {before : List ℕ} → (tickOf j k ≡ t → ⊥) → Point j input t places k before before
+  point-idle ne = record { size = refl; worked = λ s ls e. absurd (ne e); spared = λ s q ls lq f. refl }
+
   -- ---- the points one after the other
   -- none is done yet
   pub points-start : (before : List ℕ) → Points j input t places 0 before before

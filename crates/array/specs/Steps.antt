@@ -65,6 +65,11 @@ pub record Framed (j : Job) (f : Frame) : Type 0 where
   pub cells : f .cells ≡ cells j
   pub bands : AllBanded j (f .bands)
 
+-- the first n entries of a timetable are the ticks of the first n points
+pub record Timed (j : Job) (n : ℕ) (timetable : List ℕ) : Type 0 where
+  pub size : points j ≤ length timetable
+  pub ticks : (k : ℕ) → k < n → getD timetable k 0 ≡ tickOf j k
+
 -- a job that may run with its frame, and a table with a column for each point
 pub record Tabled (j : Job) (f : Frame) (table : List ℕ) : Type 0 where
   pub runnable : Runnable j

@@ -4,7 +4,8 @@ use job::Job;
 use space::Vector;
 use space::bounds::Bounds;
 ghost use mathlib.Core.Path.{_≡_};
-ghost use Prim.Native.Nat.{_<_};
+ghost use Prim.Native.Nat.{_<_, _≤_};
+ghost use lib.ListN.{length};
 ghost use Rattle.space.specs.Numbers.{entry, coordinate};
 ghost use Rattle.space.specs.Vectors.{entries, Sized};
 ghost use Rattle.space.specs.Boxes.{Solid, boxOf, pointOf};
@@ -12,7 +13,7 @@ ghost use Rattle.job.specs.Limits.{Acceptable};
 ghost use Rattle.verdict.specs.Mapping.{box};
 ghost use Rattle.loops.specs.Tables.{points as pointsOf};
 ghost use Rattle.array.specs.Frames.{tickOf, cellOf, cells};
-ghost use Rattle.array.specs.Steps.{AllAhead, Reaches, Framed, Banded, bandAt, AllBanded};
+ghost use Rattle.array.specs.Steps.{AllAhead, Reaches, Framed, Banded, bandAt, AllBanded, Timed};
 
 pub struct Frame {
     pub points: u64,
@@ -95,6 +96,23 @@ pub fn cell_at(j: Job, f: Frame, p: Vector, k: u64) -> u64
     let v = verdict::course::placed(j, p);
     let row = space::bounds::steps_above(f.low0, v.x1);
     row * f.columns + space::bounds::steps_above(f.low1, v.x2)
+}
+
+// The tick of every point, in box order.
+pub fn fill_timetable(j: Job, f: Frame, timetable: &mut [u64])
+    requires { ⌜ Acceptable j × Framed j f × (pointsOf j ≤ length (now timetable)) ⌝ }
+    ensures { λ _. ⌜ Timed j (pointsOf j) (now (timetable .exit)) ⌝ }
+{
+    let points = f.points;
+    let b = j.bounds;
+    let mut p = space::bounds::point(b, 0);
+    let mut k: u64 = 0;
+    while k < points {
+        let i = k as usize;
+        timetable[i] = tick_at(j, f, p, k);
+        p = space::bounds::next(b, p);
+        k += 1;
+    }
 }
 
 // The band of stream s.

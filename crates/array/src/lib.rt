@@ -13,9 +13,10 @@ ghost use Prim.Native.Nat.{_<_, _≤_};
 ghost use lib.ListN.{length};
 ghost use Rattle.job.specs.Limits.{Acceptable};
 ghost use Rattle.job.specs.declared.Job.{Job};
+ghost use Rattle.loops.specs.Tables.{points as pointsOf};
 ghost use Rattle.array.specs.Ticks.{Ticked, Ran, cleared};
 ghost use Rattle.array.specs.Runs.{Answers, Runs, Steps, OfBytes, runChecks};
-ghost use Rattle.array.specs.Steps.{Tabled, Roomy, Lacks};
+ghost use Rattle.array.specs.Steps.{Tabled, Roomy, Timed, Lacks};
 
 // What a run or a tick answers: the tick count; the verdict's refusal; 13; 14 and 15 with R; 16.
 pub enum Reply {
@@ -81,8 +82,18 @@ pub fn run_of(j: Job, input: &[u32], values: &mut [u32], places: &mut [u32]) -> 
         return reply;
     };
     let f = crate::frame::frame_of(j);
+    let mut timetable = [0u64; 1024];
+    crate::frame::fill_timetable(j, f, &mut timetable[..]);
     clear(&mut places[..], size.room as usize);
-    all_ticks(j, f, ticks, input, &mut values[..], &mut places[..]);
+    all_ticks(
+        j,
+        f,
+        &timetable[..],
+        ticks,
+        input,
+        &mut values[..],
+        &mut places[..],
+    );
     Reply::Ticks(ticks)
 }
 
@@ -102,7 +113,17 @@ pub fn tick_of(j: Job, t: u64, input: &[u32], values: &mut [u32], places: &mut [
         return Reply::Late;
     }
     let f = crate::frame::frame_of(j);
-    one_tick(j, f, t, input, &mut values[..], &mut places[..]);
+    let mut timetable = [0u64; 1024];
+    crate::frame::fill_timetable(j, f, &mut timetable[..]);
+    one_tick(
+        j,
+        f,
+        &timetable[..],
+        t,
+        input,
+        &mut values[..],
+        &mut places[..],
+    );
     Reply::Ticks(ticks)
 }
 
@@ -165,22 +186,38 @@ fn clear(places: &mut [u32], n: usize)
 }
 
 // Every tick in order.
-fn all_ticks(j: Job, f: Frame, ticks: u64, input: &[u32], values: &mut [u32], places: &mut [u32])
-    requires { ⌜ Tabled j f (now input) × Tabled j f (now values) × Roomy j (now places) ⌝ }
+fn all_ticks(
+    j: Job,
+    f: Frame,
+    timetable: &[u64],
+    ticks: u64,
+    input: &[u32],
+    values: &mut [u32],
+    places: &mut [u32],
+)
+    requires { ⌜ Tabled j f (now input) × Tabled j f (now values) × Roomy j (now places) × Timed j (pointsOf j) (now timetable) ⌝ }
     ensures { λ _. ⌜ Ran j (now (input .entry)) (now (places .entry)) (now (values .entry)) ticks (now (places .exit)) (now (values .exit)) ⌝ }
 {
     let mut t: u64 = 0;
     while t < ticks {
-        one_tick(j, f, t, input, &mut values[..], &mut places[..]);
+        one_tick(j, f, timetable, t, input, &mut values[..], &mut places[..]);
         t += 1;
     }
 }
 
 // One tick: all arrivals are read, and the values of its points worked, before any place is written.
-fn one_tick(j: Job, f: Frame, t: u64, input: &[u32], values: &mut [u32], places: &mut [u32])
-    requires { ⌜ Tabled j f (now input) × Tabled j f (now values) × Roomy j (now places) ⌝ }
+fn one_tick(
+    j: Job,
+    f: Frame,
+    timetable: &[u64],
+    t: u64,
+    input: &[u32],
+    values: &mut [u32],
+    places: &mut [u32],
+)
+    requires { ⌜ Tabled j f (now input) × Tabled j f (now values) × Roomy j (now places) × Timed j (pointsOf j) (now timetable) ⌝ }
     ensures { λ _. ⌜ Ticked j (now (input .entry)) t (now (places .entry)) (now (values .entry)) (now (places .exit)) (now (values .exit)) ⌝ }
 {
-    crate::work::work(j, f, t, input, &mut values[..], &places[..]);
-    crate::store::store(j, f, t, &values[..], &mut places[..]);
+    crate::work::work(j, f, timetable, t, input, &mut values[..], &places[..]);
+    crate::store::store(j, f, timetable, t, &values[..], &mut places[..]);
 }

@@ -2,35 +2,31 @@
 use crate::frame::Frame;
 use bands::Band;
 use job::Job;
-use space::Vector;
-ghost use mathlib.Core.Path.{_≡_};
 ghost use Prim.Native.Nat.{ℕ, _<_};
-ghost use Rattle.space.specs.Vectors.{entries};
-ghost use Rattle.space.specs.Boxes.{pointOf};
-ghost use Rattle.verdict.specs.Mapping.{box};
 ghost use Rattle.bands.specs.Bands.{at, arrivalIn};
 ghost use Rattle.loops.specs.Tables.{points as pointsOf};
 ghost use Rattle.array.specs.Frames.{w};
-ghost use Rattle.array.specs.Steps.{Tabled, Roomy, Band-lent, Slot, putOne, workedOr, Stored};
+ghost use Rattle.array.specs.Steps.{Tabled, Roomy, Timed, Band-lent, Slot, putOne, workedOr, Stored};
 
-// The value of p, the point at place k, goes to its cell, if it is worked in tick t.
+// The value of the point at place k goes to its cell, if its tick is t.
 fn put_point(
     j: Job,
     f: Frame,
+    timetable: &[u64],
     t: u64,
     s: u8,
     b: Band,
     slot: u64,
     values: &[u32],
     band: &mut [u32],
-    p: Vector,
     k: u64,
 )
-    requires { ⌜ Tabled j f (now values) × (s < j .m) × Band-lent j s t b slot (now band) × (k < pointsOf j) × (entries p ≡ pointOf (box j) k) ⌝ }
+    requires { ⌜ Tabled j f (now values) × (s < j .m) × Band-lent j s t b slot (now band) × Timed j (pointsOf j) (now timetable) × (k < pointsOf j) ⌝ }
     ensures { λ _. ⌜ Slot j s slot (putOne j t s slot (now (values .entry)) k (now (band .entry))) (now (band .entry)) (now (band .exit)) ⌝ }
 {
-    if crate::frame::tick_at(j, f, p, k) == t {
-        let x = crate::frame::cell_at(j, f, p, k);
+    let line = k as usize;
+    if timetable[line] == t {
+        let x = crate::frame::cell_at(j, f, space::bounds::point(j.bounds, k), k);
         let from = loops::looped::place_in_table(s, f.points, k);
         let i = (x * b.w + slot) as usize;
         band[i] = values[from];
@@ -38,33 +34,50 @@ fn put_point(
 }
 
 // The values of all points worked in tick t go to their cells.
-fn put_points(j: Job, f: Frame, t: u64, s: u8, b: Band, slot: u64, values: &[u32], band: &mut [u32])
-    requires { ⌜ Tabled j f (now values) × (s < j .m) × Band-lent j s t b slot (now band) ⌝ }
+fn put_points(
+    j: Job,
+    f: Frame,
+    timetable: &[u64],
+    t: u64,
+    s: u8,
+    b: Band,
+    slot: u64,
+    values: &[u32],
+    band: &mut [u32],
+)
+    requires { ⌜ Tabled j f (now values) × (s < j .m) × Band-lent j s t b slot (now band) × Timed j (pointsOf j) (now timetable) ⌝ }
     ensures { λ _. ⌜ Slot j s slot (λ (x : ℕ). workedOr j t s (now (values .entry)) (pointsOf j) x (at (w j s) (now (band .entry)) x slot)) (now (band .entry)) (now (band .exit)) ⌝ }
 {
     let points = f.points;
-    let bounds = j.bounds;
-    let mut p = space::bounds::point(bounds, 0);
     let mut k: u64 = 0;
     while k < points {
-        put_point(j, f, t, s, b, slot, values, &mut band[..], p, k);
-        p = space::bounds::next(bounds, p);
+        put_point(j, f, timetable, t, s, b, slot, values, &mut band[..], k);
         k += 1;
     }
 }
 
 // One stream's band: the arrivals everywhere, then the new values where a point is worked.
-fn store_band(j: Job, f: Frame, t: u64, s: u8, b: Band, slot: u64, values: &[u32], band: &mut [u32])
-    requires { ⌜ Tabled j f (now values) × (s < j .m) × Band-lent j s t b slot (now band) ⌝ }
+fn store_band(
+    j: Job,
+    f: Frame,
+    timetable: &[u64],
+    t: u64,
+    s: u8,
+    b: Band,
+    slot: u64,
+    values: &[u32],
+    band: &mut [u32],
+)
+    requires { ⌜ Tabled j f (now values) × (s < j .m) × Band-lent j s t b slot (now band) × Timed j (pointsOf j) (now timetable) ⌝ }
     ensures { λ _. ⌜ Slot j s slot (λ (x : ℕ). workedOr j t s (now (values .entry)) (pointsOf j) x (arrivalIn b slot (now (band .entry)) x)) (now (band .entry)) (now (band .exit)) ⌝ }
 {
     bands::shift(&mut band[..], b, f.cells, slot);
-    put_points(j, f, t, s, b, slot, values, &mut band[..]);
+    put_points(j, f, timetable, t, s, b, slot, values, &mut band[..]);
 }
 
 // Each stream's band is lent on by itself to be rewritten.
-pub fn store(j: Job, f: Frame, t: u64, values: &[u32], places: &mut [u32])
-    requires { ⌜ Tabled j f (now values) × Roomy j (now places) ⌝ }
+pub fn store(j: Job, f: Frame, timetable: &[u64], t: u64, values: &[u32], places: &mut [u32])
+    requires { ⌜ Tabled j f (now values) × Roomy j (now places) × Timed j (pointsOf j) (now timetable) ⌝ }
     ensures { λ _. ⌜ Stored j t (now (values .entry)) (j .m) (now (places .entry)) (now (places .exit)) ⌝ }
 {
     let m = j.m;
@@ -73,7 +86,17 @@ pub fn store(j: Job, f: Frame, t: u64, values: &[u32], places: &mut [u32])
     while s < m {
         let b = crate::frame::band_at(f.bands, s);
         let end = from + (f.cells * b.w) as usize;
-        store_band(j, f, t, s, b, t % b.w, values, &mut places[from..end]);
+        store_band(
+            j,
+            f,
+            timetable,
+            t,
+            s,
+            b,
+            t % b.w,
+            values,
+            &mut places[from..end],
+        );
         from = end;
         s += 1;
     }

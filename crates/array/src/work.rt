@@ -13,7 +13,7 @@ ghost use Rattle.verdict.specs.Mapping.{box};
 ghost use Rattle.loops.specs.Tables.{points as pointsOf};
 ghost use Rattle.array.specs.Frames.{tickOf, cells, from as fromOf};
 ghost use Rattle.array.specs.Ticks.{incoming};
-ghost use Rattle.array.specs.Steps.{Banded, Tabled, Roomy, Point, Points};
+ghost use Rattle.array.specs.Steps.{Banded, Tabled, Roomy, Timed, Point, Points};
 
 // What comes in on stream s at p, the point at place k, in cell x; the stream's band b starts at from.
 fn incoming_at(
@@ -93,37 +93,44 @@ fn work_column(
     loops::looped::put_column(j, &mut values[..], f.points, k, got);
 }
 
-// The same, if it is worked in tick t.
+// The point at place k is worked, if its tick is t.
 fn work_point(
     j: Job,
     f: Frame,
+    timetable: &[u64],
     t: u64,
     input: &[u32],
     values: &mut [u32],
     places: &[u32],
-    p: Vector,
     k: u64,
 )
-    requires { ⌜ Tabled j f (now input) × Tabled j f (now values) × Roomy j (now places) × (k < pointsOf j) × (entries p ≡ pointOf (box j) k) ⌝ }
+    requires { ⌜ Tabled j f (now input) × Tabled j f (now values) × Roomy j (now places) × Timed j (pointsOf j) (now timetable) × (k < pointsOf j) ⌝ }
     ensures { λ _. ⌜ Point j (now (input .entry)) t (now (places .entry)) k (now (values .entry)) (now (values .exit)) ⌝ }
 {
-    if crate::frame::tick_at(j, f, p, k) == t {
+    let i = k as usize;
+    if timetable[i] == t {
+        let p = space::bounds::point(j.bounds, k);
         work_column(j, f, t, input, &mut values[..], places, p, k);
     }
 }
 
 // All points of tick t.
-pub fn work(j: Job, f: Frame, t: u64, input: &[u32], values: &mut [u32], places: &[u32])
-    requires { ⌜ Tabled j f (now input) × Tabled j f (now values) × Roomy j (now places) ⌝ }
+pub fn work(
+    j: Job,
+    f: Frame,
+    timetable: &[u64],
+    t: u64,
+    input: &[u32],
+    values: &mut [u32],
+    places: &[u32],
+)
+    requires { ⌜ Tabled j f (now input) × Tabled j f (now values) × Roomy j (now places) × Timed j (pointsOf j) (now timetable) ⌝ }
     ensures { λ _. ⌜ Points j (now (input .entry)) t (now (places .entry)) (pointsOf j) (now (values .entry)) (now (values .exit)) ⌝ }
 {
     let points = f.points;
-    let b = j.bounds;
-    let mut p = space::bounds::point(b, 0);
     let mut k: u64 = 0;
     while k < points {
-        work_point(j, f, t, input, &mut values[..], places, p, k);
-        p = space::bounds::next(b, p);
+        work_point(j, f, timetable, t, input, &mut values[..], places, k);
         k += 1;
     }
 }

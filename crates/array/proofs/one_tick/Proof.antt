@@ -10,9 +10,9 @@ work-requires c κs = search needs
 
 store-requires : tie.Need-store-requires
 store-requires c κs =
-    let p = c .before .before .before .before .before .before .before .before .before .before .pre in
+    let p = c .before .before .before .before .before .before .before .before .before .before .before .pre in
     let e = c .before .before .before .before .work .ensures .size in
-    (record { runnable = p .1 .runnable; framed = p .1 .framed; size = e ∙ p .1 .size }, p .2)
+    (record { runnable = p .1 .runnable; framed = p .1 .framed; size = e ∙ p .1 .size }, p .2, p .3)
 
 same-length : tie.Need-same-length
 same-length c = search needs

@@ -6,6 +6,7 @@ use denote.Ref.{now}
 use borrow.Author.Needs.{needs}
 use Rattle.verdict.specs.Replies.{Says}
 use Rattle.verdict.specs.declared.Verdict.the-variants.{Accepted}
+use Rattle.loops.proofs.LoopLaws.{few-points}
 use Rattle.array.specs.declared.Reply.the-variants.{Ticks}
 use Rattle.array.specs.Ticks.{cleared}
 use Rattle.array.specs.Runs.{runChecks}
@@ -51,21 +52,30 @@ taken c = subst (Lacks _ _) (c .before .reply .given .1) (c .before .before .bef
 frame-of-requires : tie.Need-frame-of-requires
 frame-of-requires c κs = accepted-frames (says (c .before .before .before .before))
 
+slice-aggregate-fill-timetable : tie.Need-slice-aggregate-fill-timetable
+slice-aggregate-fill-timetable c = search needs
+
+fill-timetable-requires : tie.Need-fill-timetable-requires
+fill-timetable-requires c κs = let a = accepted-limits (says (c .before .before .before .before .before .before)) in (a, c .before .frame-of .ensures, few-points a)
+
 -- there are as many places
 roomy : (c : tie.After-known-told2) → c .before .before .before .before .before .v .given .0 .0 .room ≤ length (now (c .before .before .before .before .before .before .before .before .before .before .before .args .places))
 roomy c = let a = c .before .before .before .before .before .before .before .before .before .before .before .args in passed (a .j) (length (now (a .input))) (length (now (a .values))) (length (now (a .places))) (c .before .before .before .before .before .v .given .0 .0) (taken c .0) .3
 
 clear-requires : tie.Need-clear-requires
-clear-requires c κs = roomy (c .before .before)
+clear-requires c κs = roomy (c .before .before .before .before .before)
+
+slice-aggregate-all-ticks : tie.Need-slice-aggregate-all-ticks
+slice-aggregate-all-ticks c = search needs
 
 all-ticks-requires : tie.Need-all-ticks-requires
 all-ticks-requires c κs =
-    let b = c .before .before .before .before .before .before .before in
+    let b = c .before .before .before .before .before .before .before .before .before .before .before in
     let a = b .before .before .before .before .before .before .before .before .before .before .before .args in
     let s = says (b .before .before .before .before) in
     let p = taken b .0 in
-    let t = tables-tabled s p (c .before .before .before .before .before .before .frame-of .ensures) refl refl in
-    (t .0, t .1, places-roomy s p (ap length (c .before .before .before .before .clear .ensures) ∙ clear-size (now (a .places)) (b .before .before .before .before .before .v .given .0 .0 .room) (roomy b)))
+    let t = tables-tabled s p (c .before .before .before .before .before .before .before .before .before .before .frame-of .ensures) refl refl in
+    (t .0, t .1, places-roomy s p (ap length (c .before .before .before .before .before .clear .ensures) ∙ clear-size (now (a .places)) (b .before .before .before .before .before .v .given .0 .0 .room) (roomy b)), c .before .before .before .before .before .before .before .before .fill-timetable .ensures)
 
 same-length : tie.Need-same-length
 same-length c = search needs
@@ -75,13 +85,13 @@ same-length-2 c = search needs
 
 returns-3 : tie.Need-returns-3
 returns-3 c =
-    let b = c .before .before .before .before .before .before .before .before .before .before .before .before in
+    let b = c .before .before .before .before .before .before .before .before .before .before .before .before .before .before .before .before in
     let a = b .before .before .before .before .before .before .before .before .before .before .before .args in
     let z = b .before .before .before .before .before .v .given .0 .0 in
     let s = says (b .before .before .before .before) in
     let p = taken b in
-    let cleared-all = c .before .before .before .before .before .before .before .before .before .clear .ensures ∙ ap (λ (n : ℕ). cleared n (now (a .places))) (sizes-room (a .j) (accepted-limits s) z (s .claim)) in
+    let cleared-all = c .before .before .before .before .before .before .before .before .before .before .clear .ensures ∙ ap (λ (n : ℕ). cleared n (now (a .places))) (sizes-room (a .j) (accepted-limits s) z (s .claim)) in
     (z, record { accepted = s; first = p .0 }, p .1, ran-as cleared-all (p .1 ∙ sizes-ticks (a .j) (accepted-limits s) z (s .claim)) (c .before .before .before .before .all-ticks .ensures))
 
 pub run-of-spec : {M : Type 1} → statement M
-run-of-spec = tie.close (tie.spec verdict-of-requires enum-known-v returns lacking-requires enum-known-reply returns-2 frame-of-requires clear-requires all-ticks-requires same-length same-length-2 returns-3)
+run-of-spec = tie.close (tie.spec verdict-of-requires enum-known-v returns lacking-requires enum-known-reply returns-2 frame-of-requires slice-aggregate-fill-timetable fill-timetable-requires clear-requires slice-aggregate-all-ticks all-ticks-requires same-length same-length-2 returns-3)

@@ -9,6 +9,7 @@ use Rattle.job.specs.Refusals.{check, done}
 use Rattle.job.proofs.Refusing.{stop-first}
 use Rattle.verdict.specs.Replies.{Says}
 use Rattle.verdict.specs.declared.Verdict.the-variants.{Accepted}
+use Rattle.loops.proofs.LoopLaws.{few-points}
 use Rattle.array.specs.declared.Reply.the-variants.{Ticks}
 use Rattle.array.specs.Runs.{runChecks, tickChecks}
 use Rattle.array.specs.Steps.{Lacks}
@@ -54,12 +55,21 @@ returns-3 c = (_, record { accepted = says (c .before .before .before .before .b
 frame-of-requires : tie.Need-frame-of-requires
 frame-of-requires c κs = accepted-frames (says (c .before .before .before .before .before))
 
+slice-aggregate-fill-timetable : tie.Need-slice-aggregate-fill-timetable
+slice-aggregate-fill-timetable c = search needs
+
+fill-timetable-requires : tie.Need-fill-timetable-requires
+fill-timetable-requires c κs = let a = accepted-limits (says (c .before .before .before .before .before .before .before)) in (a, c .before .frame-of .ensures, few-points a)
+
+slice-aggregate-one-tick : tie.Need-slice-aggregate-one-tick
+slice-aggregate-one-tick c = search needs
+
 one-tick-requires : tie.Need-one-tick-requires
 one-tick-requires c κs =
-    let s = says (c .before .before .before .before .before .before .before .before) in
-    let p = taken (c .before .before .before .before) .0 in
-    let t = tables-tabled s p (c .before .before .frame-of .ensures) refl refl in
-    (t .0, t .1, places-roomy s p refl)
+    let s = says (c .before .before .before .before .before .before .before .before .before .before .before .before) in
+    let p = taken (c .before .before .before .before .before .before .before .before) .0 in
+    let t = tables-tabled s p (c .before .before .before .before .before .before .frame-of .ensures) refl refl in
+    (t .0, t .1, places-roomy s p refl, c .before .before .before .before .fill-timetable .ensures)
 
 same-length : tie.Need-same-length
 same-length c = search needs
@@ -69,10 +79,10 @@ same-length-2 c = search needs
 
 returns-4 : tie.Need-returns-4
 returns-4 c =
-    let b = c .before .before .before .before .before .before .before .before .before in
+    let b = c .before .before .before .before .before .before .before .before .before .before .before .before .before in
     let s = says (b .before .before .before .before) in
     let p = taken b in
-    (_, record { accepted = s; first = tick-taken s (p .0) _ (omega (arith, c .before .before .before .before .before .before .before .before .if1 .left, p .1)) }, p .1, c .before .before .before .before .one-tick .ensures)
+    (_, record { accepted = s; first = tick-taken s (p .0) _ (omega (arith, c .before .before .before .before .before .before .before .before .before .before .before .before .if1 .left, p .1)) }, p .1, c .before .before .before .before .one-tick .ensures)
 
 pub tick-of-spec : {M : Type 1} → statement M
-tick-of-spec = tie.close (tie.spec verdict-of-requires enum-known-v returns lacking-requires enum-known-reply returns-2 returns-3 frame-of-requires one-tick-requires same-length same-length-2 returns-4)
+tick-of-spec = tie.close (tie.spec verdict-of-requires enum-known-v returns lacking-requires enum-known-reply returns-2 returns-3 frame-of-requires slice-aggregate-fill-timetable fill-timetable-requires slice-aggregate-one-tick one-tick-requires same-length same-length-2 returns-4)
