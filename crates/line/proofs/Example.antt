@@ -1,4 +1,4 @@
--- 'The 30 bytes .. print `refused 12 stream 0 pair 0 1 / 1 0 hops -1`', and one accepted line and the least number of 64 bits, from the definitions.
+-- 'The 30 bytes .. print `refused 12 stream 0 pair 0 1 / 1 0 hops -1`', and one accepted line, from the definitions.
 use mathlib.Core.Path.{_≡_, refl, subst}
 use mathlib.Core.List.{List, [], _∷_}
 use Prim.Native.Nat.{ℕ}
@@ -13,8 +13,8 @@ use Rattle.verdict.specs.Replies.{Says}
 use Rattle.verdict.specs.declared.Verdict.{Verdict}
 use Rattle.verdict.specs.declared.Verdict.the-variants.{Accepted, Link}
 use Rattle.decisions.proofs.Answer.{answer}
-use Rattle.line.specs.Decimal.{digits, decimal}
-use Rattle.line.specs.Words.{wordBytes}
+use Rattle.print.specs.Decimal.{digits, decimal}
+use Rattle.print.specs.Words.{wordBytes}
 use Rattle.line.specs.Lines.{fieldsBytes, coordinates, pairFields, lineFields, lineOf}
 use Rattle.line.specs.Bytes.{Prints}
 use Rattle.line.proofs.Printing.{prints-job}
@@ -66,8 +66,3 @@ bytes-print = subst (Prints bytes) line-is (prints-job bytes job verdict reads s
 pub accepted-line : lineOf 3 (Accepted (record { cells = 9; ticks = 7; room = 27 })) ≡ 97 ∷ 99 ∷ 99 ∷ 101 ∷ 112 ∷ 116 ∷ 101 ∷ 100 ∷ 32 ∷ 99 ∷ 101 ∷ 108 ∷ 108 ∷ 115 ∷ 32 ∷ 57 ∷ 32 ∷ 116 ∷ 105 ∷ 99 ∷ 107 ∷ 115 ∷ 32 ∷ 55 ∷ 32 ∷ 114 ∷ 111 ∷ 111 ∷ 109 ∷ 32 ∷ 50 ∷ 55 ∷ 10 ∷ []
 unfolding digits decimal wordBytes fieldsBytes coordinates pairFields lineFields lineOf
 accepted-line = refl
-
--- -9223372036854775808
-pub least : decimal (negsuc 9223372036854775807) ≡ 45 ∷ 57 ∷ 50 ∷ 50 ∷ 51 ∷ 51 ∷ 55 ∷ 50 ∷ 48 ∷ 51 ∷ 54 ∷ 56 ∷ 53 ∷ 52 ∷ 55 ∷ 55 ∷ 53 ∷ 56 ∷ 48 ∷ 56 ∷ []
-unfolding digits decimal
-least = refl

@@ -1,14 +1,5 @@
-pub mod Putting
-pub mod Numerals
-pub mod Cutting
 pub mod Rows
 pub mod Coordinates
 pub mod Whole
-pub mod Again
-pub mod Exits
-pub mod Thin
-pub mod Values
-pub mod Calls
-pub mod Two
 pub mod Printing
 pub mod Example

@@ -10,14 +10,14 @@ use Rattle.space.specs.declared.Vector.{Vector}
 use Rattle.verdict.specs.declared.Pair.{Pair}
 use Rattle.verdict.specs.declared.Verdict.{Verdict}
 use Rattle.verdict.specs.declared.Verdict.the-variants.{Accepted, Limit, Precedence, Hop, Cell, Link}
-use Rattle.line.specs.Put.{putAt, Fits, Put}
-use Rattle.line.specs.Decimal.{decimal}
-use Rattle.line.specs.Words.{wordBytes}
+use Rattle.print.specs.Put.{putAt, Fits, Put}
+use Rattle.print.specs.Decimal.{decimal}
+use Rattle.print.specs.Words.{wordBytes}
 use Rattle.line.specs.Lines.{Field, field, fieldsBytes, coordinates, pairFields, lineFields, lineOf, longest, Writes}
-use Rattle.line.specs.declared.words.Word.{Word}
-use Rattle.line.specs.declared.words.Word.the-variants as Word
-use Rattle.line.proofs.Putting.{and-then, first, left, same-length}
-use Rattle.line.proofs.Numerals.{decimal-length}
+use Rattle.print.specs.declared.words.Word.{Word}
+use Rattle.print.specs.declared.words.Word.the-variants as Word
+use Rattle.print.proofs.Putting.{and-then, first, left, same-length}
+use Rattle.print.proofs.Numerals.{decimal-length}
 
 -- ---- lengths, each number counted at 21 bytes
 abbrev width : List Field → ℕ

@@ -1,7 +1,2 @@
-pub mod Put
-pub mod Decimal
-pub mod Words
-pub mod Row
-pub mod Held
 pub mod Lines
 pub mod Bytes

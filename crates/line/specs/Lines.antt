@@ -10,10 +10,10 @@ use Rattle.verdict.specs.declared.Size.{Size}
 use Rattle.verdict.specs.declared.Pair.{Pair}
 use Rattle.verdict.specs.declared.Verdict.{Verdict}
 use Rattle.verdict.specs.declared.Verdict.the-variants.{Accepted, Limit, Precedence, Hop, Cell, Link}
-use Rattle.line.specs.Decimal.{decimal}
-use Rattle.line.specs.Words.{wordBytes}
-use Rattle.line.specs.declared.words.Word.{Word}
-use Rattle.line.specs.declared.words.Word.the-variants as Word
+use Rattle.print.specs.Decimal.{decimal}
+use Rattle.print.specs.Words.{wordBytes}
+use Rattle.print.specs.declared.words.Word.{Word}
+use Rattle.print.specs.declared.words.Word.the-variants as Word
 
 -- a word and the number after it
 pub record Field : Type 0 where

@@ -1,5 +1,5 @@
 // The fields of each kind of line, a word and a number each, put into a buffer from a place on.
-use crate::words::Word;
+use print::words::Word;
 use space::Vector;
 use verdict::Clash;
 use verdict::Pair;
@@ -10,7 +10,7 @@ ghost use mathlib.Core.List.{[], _∷_};
 ghost use lib.IntN.{pos};
 ghost use lib.ListN.{take};
 ghost use Rattle.space.specs.Vectors.{entries};
-ghost use Rattle.line.specs.Put.{Fits, Put};
+ghost use Rattle.print.specs.Put.{Fits, Put};
 ghost use Rattle.line.specs.Lines.{field, fieldsBytes, coordinates, pairFields, sizeFields, lineFields};
 
 // Coordinate number k, where n are shown.
@@ -21,7 +21,7 @@ fn put_coordinate(out: &mut [u8], at: usize, n: u8, k: u8, w: Word, x: i64) -> u
     if n <= k {
         return at;
     }
-    crate::held::put_field(out, at, w, x)
+    print::held::put_field(out, at, w, x)
 }
 
 // The first n coordinates of a point, after the word w and separated by a blank.
@@ -51,9 +51,9 @@ fn put_sizes(out: &mut [u8], at: usize, z: Size) -> usize
     requires { ⌜ Fits (now out) at (fieldsBytes (sizeFields z)) ⌝ }
     ensures { λ r. ⌜ Put (now (out .entry)) at (fieldsBytes (sizeFields z)) r (now (out .exit)) ⌝ }
 {
-    let i = crate::held::put_count(out, at, Word::AcceptedCells, z.cells);
-    let j = crate::held::put_count(out, i, Word::Ticks, z.ticks);
-    crate::held::put_count(out, j, Word::Room, z.room)
+    let i = print::held::put_count(out, at, Word::AcceptedCells, z.cells);
+    let j = print::held::put_count(out, i, Word::Ticks, z.ticks);
+    print::held::put_count(out, j, Word::Room, z.room)
 }
 
 // A number of refusal.
@@ -61,7 +61,7 @@ fn put_refused(out: &mut [u8], at: usize, number: u8) -> usize
     requires { ⌜ Fits (now out) at (fieldsBytes (field Word.Refused (pos number) ∷ [])) ⌝ }
     ensures { λ r. ⌜ Put (now (out .entry)) at (fieldsBytes (field Word.Refused (pos number) ∷ [])) r (now (out .exit)) ⌝ }
 {
-    crate::held::put_count(out, at, Word::Refused, number as u64)
+    print::held::put_count(out, at, Word::Refused, number as u64)
 }
 
 // A number of refusal and a stream.
@@ -69,8 +69,8 @@ fn put_named(out: &mut [u8], at: usize, number: u8, stream: u8) -> usize
     requires { ⌜ Fits (now out) at (fieldsBytes (field Word.Refused (pos number) ∷ field Word.Stream (pos stream) ∷ [])) ⌝ }
     ensures { λ r. ⌜ Put (now (out .entry)) at (fieldsBytes (field Word.Refused (pos number) ∷ field Word.Stream (pos stream) ∷ [])) r (now (out .exit)) ⌝ }
 {
-    let i = crate::held::put_count(out, at, Word::Refused, number as u64);
-    crate::held::put_count(out, i, Word::Stream, stream as u64)
+    let i = print::held::put_count(out, at, Word::Refused, number as u64);
+    print::held::put_count(out, i, Word::Stream, stream as u64)
 }
 
 // Two points that share a cell.
@@ -90,7 +90,7 @@ fn put_link(out: &mut [u8], at: usize, n: u8, clash: Clash) -> usize
     let pair = clash.pair;
     let i = put_named(out, at, 12, clash.stream);
     let j = put_pair(out, i, n, pair);
-    crate::held::put_field(out, j, Word::Hops, clash.hops)
+    print::held::put_field(out, j, Word::Hops, clash.hops)
 }
 
 // The fields of a verdict's line, n coordinates to a point.

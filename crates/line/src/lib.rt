@@ -1,10 +1,7 @@
 // The printed line of a verdict, made in a lent buffer by a line writer that holds it.
-mod digits;
 mod fields;
-mod held;
-mod words;
 
-use crate::words::Word;
+use print::words::Word;
 use reader::Reply;
 use verdict::Verdict;
 ghost use Prim.Native.Nat.{_≤_};
@@ -24,7 +21,7 @@ pub fn write_line(out: &mut [u8], n: u8, v: Verdict) -> usize
         return 0;
     }
     let i = crate::fields::put_fields(out, 0, n, v);
-    crate::held::put_close(out, i, Word::Nothing, Word::End)
+    print::held::put_close(out, i, Word::Nothing, Word::End)
 }
 
 // Writes the line of the verdict on job bytes, as `write_line` does.

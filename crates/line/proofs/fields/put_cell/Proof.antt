@@ -1,7 +1,7 @@
 use mathlib.Core.List.{[], _∷_}
 use lib.IntN.{pos}
 use Rattle.line.specs.Lines.{field, lineFields}
-use Rattle.line.specs.declared.words.Word.the-variants as Word
+use Rattle.print.specs.declared.words.Word.the-variants as Word
 use Rattle.line.proofs.Rows.{room-first, room-rest, put-rest}
 use borrow.Author.Needs.{needs}
 use Rattle.line.proofs.fields.put_cell.Statement.{statement}

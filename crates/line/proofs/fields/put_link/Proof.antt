@@ -1,7 +1,7 @@
 use mathlib.Core.List.{[], _∷_}
 use lib.IntN.{pos}
 use Rattle.line.specs.Lines.{field, lineFields}
-use Rattle.line.specs.declared.words.Word.the-variants as Word
+use Rattle.print.specs.declared.words.Word.the-variants as Word
 use Rattle.space.proofs.Machine.{in-range}
 use Rattle.line.proofs.Rows.{fieldBytes, room-first, room-rest, put-rest, room-head, put-last, room-held, put-held}
 use borrow.Author.Needs.{needs}

@@ -1,7 +1,7 @@
 use lib.ListN.{take}
 use Rattle.space.specs.Vectors.{entries}
 use Rattle.line.specs.Lines.{coordinates, pairFields}
-use Rattle.line.specs.declared.words.Word.the-variants as Word
+use Rattle.print.specs.declared.words.Word.the-variants as Word
 use Rattle.line.proofs.Rows.{room-first, room-rest, put-rest}
 use borrow.Author.Needs.{needs}
 use Rattle.line.proofs.fields.put_pair.Statement.{statement}

@@ -1,0 +1,9 @@
+pub mod Putting
+pub mod Numerals
+pub mod Cutting
+pub mod Again
+pub mod Exits
+pub mod Thin
+pub mod Values
+pub mod Calls
+pub mod Two

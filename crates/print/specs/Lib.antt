@@ -1,0 +1,5 @@
+pub mod Put
+pub mod Decimal
+pub mod Words
+pub mod Row
+pub mod Held
