@@ -1,9 +1,3 @@
-pub mod FrameLaws
-pub mod RoomLaws
-pub mod LendingLaws
-pub mod WorkLaws
-pub mod StoreLaws
-pub mod PointLaws
 pub mod RunLaws
 pub mod ReplyLaws
 pub mod UniqueTicks

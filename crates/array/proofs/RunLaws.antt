@@ -1,25 +1,17 @@
--- Laws of a run: the places are cleared one after the other, a tick is its work and its storing, and a run is tick after tick.
-use mathlib.Core.Path.{_≡_, refl, sym, ap, subst, _∙_}
-use mathlib.Core.Bool.{Bool, true, false, _&&_}
+-- Laws of a run: the places are cleared one after the other, and a run is tick after tick.
+use mathlib.Core.Path.{_≡_, refl, ap, subst, _∙_}
 use mathlib.Core.List.{List, _∷_, _++_}
-use mathlib.Core.Option.{Option, none, some}
 use Prim.Native.Nat.{ℕ, zero, suc, _+_, _<_, _≤_}
 use native.Mathlib.Numerals.{add-one}
 use native.Mathlib.Omega.{arith}
-use lib.Dec.{eqb}
 use lib.ListN.{length, getD, set, drop, replicate, length-replicate, length-append, length-drop}
 use lib.Seq.{drop-cons, set-at}
-use borrow.Author.Tests.{eqb-true}
-use Rattle.space.proofs.Machine.{never}
 use Rattle.job.specs.declared.Job.{Job}
-use Rattle.bands.specs.Bands.{given}
-use Rattle.loops.specs.Tables.{points, entryFor}
-use Rattle.array.specs.declared.frame.Frame.{Frame}
-use Rattle.array.specs.Frames.{tickOf, cellOf}
-use Rattle.array.specs.Ticks.{works, pointAt, arrival, fresh, stored, Ticked, Ran, cleared}
-use Rattle.array.specs.Ticks.Ran.{ready, ticked}
-use Rattle.array.specs.Steps.{Tabled, Roomy, Points, workedOr, Stored}
-use Rattle.array.proofs.PointLaws.{last-only}
+use Rattle.tick.specs.declared.frame.Frame.{Frame}
+use Rattle.tick.specs.Ticks.{Ticked}
+use Rattle.array.specs.Runs.{Ran, cleared}
+use Rattle.array.specs.Runs.Ran.{ready, ticked}
+use Rattle.tick.specs.Steps.{Tabled, Roomy}
 
 -- ---- clearing
 one-more : (i a : ℕ) (ys : List ℕ) → replicate i a ++ (a ∷ ys) ≡ a ∷ (replicate i a ++ ys)
@@ -32,37 +24,6 @@ clear-step l i h = rw (add-one, drop-cons l i 0 h) (set-at (replicate i 0) (getD
 
 pub clear-size : (l : List ℕ) (i : ℕ) → i ≤ length l → length (cleared i l) ≡ length l
 clear-size l i h = rw (length-append, length-replicate, length-drop) (omega arith)
-
--- ---- one tick
-both : (a b : Bool) → a && b ≡ true → (a ≡ true) × (b ≡ true)
-both true true e = (refl, refl)
-both true false e = never (sym e)
-both false b e = never (sym e)
-
-module _ {j : Job} {input : List ℕ} {t : ℕ} {places values after : List ℕ} (p : Points j input t places (points j) values after) where
-  -- what a cell stores is the value of its point in the table after the work, or the arrival
-  stores-fresh : (s x : ℕ) → s < j .m → workedOr j t s after (points j) x (arrival j t places s x) ≡ stored j input t places s x
-  unfolding stored
-  stores-fresh s x ls = by (pointAt j t x) (last-only (works j t x) (points j))
-    where
-      by : (o : Option ℕ) → ((k : ℕ) → o ≡ some k → (k < points j) × (works j t x k ≡ true)) → given o (arrival j t places s x) (λ (k : ℕ). entryFor j after s k) ≡ given o (arrival j t places s x) (λ (k : ℕ). fresh j input t places s x k)
-      by none h = refl
-      by (some k) h =
-          let q = h k refl in
-          let e = both (eqb (tickOf j k) t) (eqb (cellOf j k) x) (q .1) in
-          p .worked s k ls (q .0) (eqb-true (tickOf j k) t (e .0)) ∙ ap (λ (y : ℕ). fresh j input t places s y k) (eqb-true (cellOf j k) x (e .1))
-
-  -- the work and the storing are the tick
-  pub tick-whole : {places′ : List ℕ} → Stored j t after (j .m) places places′ → Ticked j input t places values places′ after
-  tick-whole d = record {
-    length-places = d .size;
-    length-values = p .size;
-    worked = λ s k ls lk e. p .worked s k ls lk e;
-    spared = λ s k ls lk ne. p .spared s k ls lk (λ l e. ne e);
-    stores = λ s x ls lx. d .stores s x ls lx ∙ stores-fresh s x ls;
-    keeps = d .keeps;
-    beyond = d .beyond;
-  }
 
 -- ---- tick after tick
 -- the tables of a run in its course

@@ -30,8 +30,9 @@ use Rattle.array.specs.declared.Reply.{Reply}
 use Rattle.array.specs.declared.Reply.the-variants.{Ticks, Refused, Tables, Large, Few, Late}
 use Rattle.array.specs.declared.lookup.Worked.{Worked}
 use Rattle.array.specs.declared.lookup.Worked.the-variants as Look
-use Rattle.array.specs.Frames.{ticks, room}
-use Rattle.array.specs.Ticks.{Ticked, Ran, cleared}
+use Rattle.tick.specs.Frames.{ticks, room}
+use Rattle.tick.specs.Ticks.{Ticked}
+use Rattle.array.specs.Runs.{Ran, cleared}
 use Rattle.array.specs.Runs.{runChecks, tickChecks, numberOf, Stands, Replies, Runs, Steps, OfBytes}
 use Rattle.array.specs.Lookups.{Looks, LooksOf}
 use Rattle.array.proofs.ReplyLaws.{accepted-runs, passed}

@@ -12,12 +12,13 @@ use Rattle.space.proofs.BoxLaws.{solid-count}
 use Rattle.job.specs.declared.Job.{Job}
 use Rattle.verdict.specs.Mapping.{box}
 use Rattle.loops.specs.Tables.{points, entryFor}
-use Rattle.array.specs.Frames.{cells, tickOf, w, from, room, held}
-use Rattle.array.specs.Ticks.{Ticked, Ran}
-use Rattle.array.specs.Ticks.Ran.{ready, ticked}
-use Rattle.array.specs.Steps.{Runnable}
-use Rattle.array.proofs.RoomLaws.{from-next, delay-some}
-use Rattle.array.proofs.LendingLaws.{from-first}
+use Rattle.tick.specs.Frames.{cells, tickOf, w, from, room, held}
+use Rattle.tick.specs.Ticks.{Ticked}
+use Rattle.array.specs.Runs.{Ran}
+use Rattle.array.specs.Runs.Ran.{ready, ticked}
+use Rattle.tick.specs.Steps.{Runnable}
+use Rattle.tick.proofs.RoomLaws.{from-next, delay-some}
+use Rattle.tick.proofs.LendingLaws.{from-first}
 
 -- ---- tables
 -- value tables with the same entries are the same

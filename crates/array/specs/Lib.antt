@@ -1,5 +1,3 @@
-pub mod Frames
-pub mod Ticks
 pub mod Runs
 pub mod Lookups
-pub mod Steps
+pub mod Lacking

@@ -13,7 +13,7 @@ use Rattle.verdict.specs.Mapping.{box}
 use Rattle.verdict.specs.Replies.{Says, numberOf}
 use Rattle.verdict.specs.declared.Verdict.the-variants.{Accepted, Limit}
 use Rattle.verdict.specs.declared.Size.{Size}
-use Rattle.array.specs.Ticks.{pointAt}
+use Rattle.tick.specs.Ticks.{pointAt}
 use Rattle.array.specs.declared.lookup.Worked.{Worked}
 use Rattle.array.specs.declared.lookup.Worked.the-variants.{At, Nowhere, Refused}
 

@@ -1,23 +1,31 @@
 -- What a run and a single tick answer: 'a run adds 13 to 15, a single tick 16 as well'; 'nothing lent is altered' by a refusal.
 use mathlib.Core.Path.{_≡_}
 use mathlib.Core.Logic.{_⊎_}
-use mathlib.Core.List.{List}
-use Prim.Native.Nat.{ℕ, _*_, _<_, _≤_}
-use lib.ListN.{length}
+use mathlib.Core.List.{List, _++_}
+use Prim.Native.Nat.{ℕ, zero, suc, _*_, _<_, _≤_}
+use lib.ListN.{length, drop, replicate}
 use Rattle.job.specs.declared.Job.{Job}
 use Rattle.job.specs.Refusals.{Checks, done, check, First, andThen}
 use Rattle.reader.specs.Reading.{Reads}
 use Rattle.reader.specs.declared.Reply.the-variants as Read
 use Rattle.verdict.specs.Replies.{Says, numberOf as numberIn}
-use Rattle.verdict.specs.declared.Verdict.{Verdict}
 use Rattle.verdict.specs.declared.Verdict.the-variants.{Accepted, Limit}
 use Rattle.verdict.specs.declared.Size.{Size}
 use Rattle.loops.specs.Tables.{points}
-use Rattle.array.specs.Frames.{ticks, room}
-use Rattle.array.specs.Ticks.{Ticked, Ran, cleared}
+use Rattle.tick.specs.Frames.{ticks, room}
+use Rattle.tick.specs.Ticks.{Ticked}
 use Rattle.array.specs.declared.Reply.{Reply}
 use Rattle.array.specs.declared.Reply.the-variants.{Ticks, Refused, Tables, Large, Few, Late}
 use Rattle.array.specs.declared.Answer.{Answer}
+
+-- ticks 0 to n - 1 in order
+pub data Ran (j : Job) (input places values : List ℕ) : ℕ → List ℕ → List ℕ → Type 0 where
+  ready : Ran j input places values zero places values
+  ticked : {t : ℕ} {places′ values′ places″ values″ : List ℕ} → Ran j input places values t places′ values′ → Ticked j input t places′ values′ places″ values″ → Ran j input places values (suc t) places″ values″
+
+-- 'A run clears the first R places'
+abbrev pub cleared : ℕ → List ℕ → List ℕ
+cleared n places = replicate n 0 ++ drop n places
 
 -- 13 'input or value table not m × points long', 14 'R over 8,192', 15 'fewer than R places lent', of tables and places so long, for an accepted array
 abbrev pub runChecks : Job → ℕ → ℕ → ℕ → Size → Checks

@@ -1,11 +1,8 @@
 // The array: one tick, and a run of all ticks.
-mod frame;
 pub mod lookup;
-mod store;
-mod work;
 
-use crate::frame::Frame;
 use job::Job;
+use tick::frame::Frame;
 use verdict::Size;
 use verdict::Verdict;
 ghost use mathlib.Core.Path.{_≡_};
@@ -14,9 +11,10 @@ ghost use lib.ListN.{length};
 ghost use Rattle.job.specs.Limits.{Acceptable};
 ghost use Rattle.job.specs.declared.Job.{Job};
 ghost use Rattle.loops.specs.Tables.{points as pointsOf};
-ghost use Rattle.array.specs.Ticks.{Ticked, Ran, cleared};
+ghost use Rattle.array.specs.Runs.{Ran, cleared};
 ghost use Rattle.array.specs.Runs.{Answers, Runs, Steps, OfBytes, runChecks};
-ghost use Rattle.array.specs.Steps.{Tabled, Roomy, Timed, Lacks};
+ghost use Rattle.tick.specs.Steps.{Tabled, Roomy, Timed};
+ghost use Rattle.array.specs.Lacking.{Lacks};
 
 // What a run or a tick answers: the tick count; the verdict's refusal; 13; 14 and 15 with R; 16.
 pub enum Reply {
@@ -81,9 +79,9 @@ pub fn run_of(j: Job, input: &[u32], values: &mut [u32], places: &mut [u32]) -> 
     let Reply::Ticks(ticks) = reply else {
         return reply;
     };
-    let f = crate::frame::frame_of(j);
+    let f = tick::frame::frame_of(j);
     let mut timetable = [0u64; 1024];
-    crate::frame::fill_timetable(j, f, &mut timetable[..]);
+    tick::frame::fill_timetable(j, f, &mut timetable[..]);
     clear(&mut places[..], size.room as usize);
     all_ticks(
         j,
@@ -112,10 +110,10 @@ pub fn tick_of(j: Job, t: u64, input: &[u32], values: &mut [u32], places: &mut [
     if ticks <= t {
         return Reply::Late;
     }
-    let f = crate::frame::frame_of(j);
+    let f = tick::frame::frame_of(j);
     let mut timetable = [0u64; 1024];
-    crate::frame::fill_timetable(j, f, &mut timetable[..]);
-    one_tick(
+    tick::frame::fill_timetable(j, f, &mut timetable[..]);
+    tick::one_tick(
         j,
         f,
         &timetable[..],
@@ -200,24 +198,7 @@ fn all_ticks(
 {
     let mut t: u64 = 0;
     while t < ticks {
-        one_tick(j, f, timetable, t, input, &mut values[..], &mut places[..]);
+        tick::one_tick(j, f, timetable, t, input, &mut values[..], &mut places[..]);
         t += 1;
     }
-}
-
-// One tick: all arrivals are read, and the values of its points worked, before any place is written.
-fn one_tick(
-    j: Job,
-    f: Frame,
-    timetable: &[u64],
-    t: u64,
-    input: &[u32],
-    values: &mut [u32],
-    places: &mut [u32],
-)
-    requires { ⌜ Tabled j f (now input) × Tabled j f (now values) × Roomy j (now places) × Timed j (pointsOf j) (now timetable) ⌝ }
-    ensures { λ _. ⌜ Ticked j (now (input .entry)) t (now (places .entry)) (now (values .entry)) (now (places .exit)) (now (values .exit)) ⌝ }
-{
-    crate::work::work(j, f, timetable, t, input, &mut values[..], &places[..]);
-    crate::store::store(j, f, timetable, t, &values[..], &mut places[..]);
 }

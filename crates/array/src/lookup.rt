@@ -1,15 +1,15 @@
 // The point worked in a tick at a cell.
-use crate::frame::Frame;
 use job::Job;
 use space::Vector;
 use space::bounds::Found;
+use tick::frame::Frame;
 use verdict::Verdict;
 ghost use mathlib.Core.Path.{_≡_};
 ghost use Rattle.space.specs.Boxes.{foundOf};
 ghost use Rattle.job.specs.Limits.{Acceptable};
-ghost use Rattle.array.specs.Ticks.{pointAt};
+ghost use Rattle.tick.specs.Ticks.{pointAt};
 ghost use Rattle.array.specs.Lookups.{Looks, LooksOf};
-ghost use Rattle.array.specs.Steps.{Framed};
+ghost use Rattle.tick.specs.Steps.{Framed};
 
 // The point, or that none is worked there and then, or the verdict's refusal.
 pub enum Worked {
@@ -26,7 +26,7 @@ pub fn point_at(j: Job, t: u64, x: u64) -> Worked
     let Verdict::Accepted(_size) = v else {
         return Worked::Refused(v);
     };
-    let found = place_at(j, crate::frame::frame_of(j), t, x);
+    let found = place_at(j, tick::frame::frame_of(j), t, x);
     match found {
         Found::At(k) => Worked::At(space::bounds::point(j.bounds, k)),
         Found::Nowhere => Worked::Nowhere,
@@ -53,7 +53,7 @@ fn place_at(j: Job, f: Frame, t: u64, x: u64) -> Found
     while 0 < k {
         k -= 1;
         let p = space::bounds::point(j.bounds, k);
-        if (crate::frame::tick_at(j, f, p, k) == t) & (crate::frame::cell_at(j, f, p, k) == x) {
+        if (tick::frame::tick_at(j, f, p, k) == t) & (tick::frame::cell_at(j, f, p, k) == x) {
             return Found::At(k);
         }
     }

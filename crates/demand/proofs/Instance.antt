@@ -9,7 +9,7 @@ use Rattle.verdict.specs.Mapping.{hops}
 use Rattle.loops.specs.Tables.{entryFor}
 use Rattle.loops.specs.Loops.{previous}
 use Rattle.loops.proofs.LoopLaws.{same-work}
-use Rattle.array.specs.Frames.{rectangle, cells}
+use Rattle.tick.specs.Frames.{rectangle, cells}
 use Rattle.demand.specs.Machine.{given}
 use Rattle.demand.specs.Instances.{machine, nest}
 use Rattle.demand.proofs.Mapped.{Mapped}

@@ -15,9 +15,10 @@ use Rattle.verdict.specs.Mapping.{hop}
 use Rattle.loops.specs.Tables.{points, entryFor}
 use Rattle.loops.specs.Cells.{work}
 use Rattle.loops.specs.Loops.{previous, fromPrevious, Looped, incoming as loopIncoming}
-use Rattle.array.specs.Frames.{rectangle, held}
-use Rattle.array.specs.Ticks.{pointAt, Ran, Ticked as ArrayTicked, arrival as arrayArrival, incoming as arrayIncoming, fresh as arrayFresh, stored as arrayStored}
-use Rattle.array.specs.Ticks.Ran.{ready, ticked}
+use Rattle.tick.specs.Frames.{rectangle, held}
+use Rattle.tick.specs.Ticks.{pointAt, Ticked as ArrayTicked, arrival as arrayArrival, incoming as arrayIncoming, fresh as arrayFresh, stored as arrayStored}
+use Rattle.array.specs.Runs.{Ran}
+use Rattle.array.specs.Runs.Ran.{ready, ticked}
 use Rattle.demand.specs.Machine.{given, link, arrival, incoming, fresh, stored, taken, Ticked, Run, Solves}
 use Rattle.demand.specs.Instances.{machine, nest}
 

@@ -10,8 +10,8 @@ use Rattle.space.specs.Numbers.{Tells}
 use Rattle.space.proofs.Telling.{told, tells-and, tells-eq}
 use Rattle.job.specs.declared.Job.{Job}
 use Rattle.loops.specs.Tables.{points}
-use Rattle.array.specs.Frames.{tickOf, cellOf}
-use Rattle.array.specs.Ticks.{lastOf, works, pointAt}
+use Rattle.tick.specs.Frames.{tickOf, cellOf}
+use Rattle.tick.specs.Ticks.{lastOf, works, pointAt}
 
 module _ (test : ℕ → Bool) where
   -- what the scan finds passes the test

@@ -19,8 +19,8 @@ use Rattle.decisions.proofs.Answer.{answer}
 use Rattle.loops.specs.Tables.{points, entryFor}
 use Rattle.loops.specs.Cells.{ruled, work}
 use Rattle.loops.specs.Loops.{Looped, incoming}
-use Rattle.array.specs.Frames.{ticks}
-use Rattle.array.specs.Ticks.{Ran}
+use Rattle.tick.specs.Frames.{ticks}
+use Rattle.array.specs.Runs.{Ran}
 use Rattle.demand.proofs.Demand.{demand-3}
 
 -- a vector of numbers that are not negative

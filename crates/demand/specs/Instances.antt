@@ -9,8 +9,8 @@ use Rattle.verdict.specs.Mapping.{hop}
 use Rattle.loops.specs.Tables.{points, entryFor}
 use Rattle.loops.specs.Cells.{work}
 use Rattle.loops.specs.Loops.{previous}
-use Rattle.array.specs.Frames.{rectangle, cells, tickOf, cellOf, w}
-use Rattle.array.specs.Ticks.{pointAt}
+use Rattle.tick.specs.Frames.{rectangle, cells, tickOf, cellOf, w}
+use Rattle.tick.specs.Ticks.{pointAt}
 use Rattle.demand.specs.Machine.{Machine, Nest, given}
 
 -- the array of a job: streams, cells and points by their numbers; every point sends, and inputs are fed at the points

@@ -5,7 +5,7 @@ use Prim.Native.Nat.{ℕ, _-_, _≤_}
 use native.Mathlib.Omega.{arith}
 use lib.ListN.{length, set}
 use denote.Ref.{now}
-use Rattle.array.specs.Ticks.{cleared}
+use Rattle.array.specs.Runs.{cleared}
 use Rattle.array.proofs.RunLaws.{clear-step, clear-size}
 use Rattle.array.proofs.clear.Statement.{statement}
 use Rattle.array.proofs.clear.Tie as tie

@@ -12,7 +12,7 @@ use Rattle.verdict.specs.declared.Verdict.the-variants.{Accepted}
 use Rattle.loops.proofs.LoopLaws.{few-points}
 use Rattle.array.specs.declared.Reply.the-variants.{Ticks}
 use Rattle.array.specs.Runs.{runChecks, tickChecks}
-use Rattle.array.specs.Steps.{Lacks}
+use Rattle.array.specs.Lacking.{Lacks}
 use Rattle.array.proofs.ReplyLaws.{not-accepted, accepted-limits, accepted-frames, lacks-refuses, tick-late, tick-taken, tables-tabled, places-roomy}
 use Rattle.array.proofs.tick_of.Statement.{statement}
 use Rattle.array.proofs.tick_of.Tie as tie

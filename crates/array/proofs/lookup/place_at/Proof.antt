@@ -10,7 +10,7 @@ use lib.Dec.{eqb}
 use Rattle.space.proofs.VectorLaws.{sized-up}
 use Rattle.verdict.proofs.Fits.{low-sized, high-sized}
 use Rattle.loops.specs.Tables.{points}
-use Rattle.array.specs.Ticks.{lastOf, works, pointAt}
+use Rattle.tick.specs.Ticks.{lastOf, works, pointAt}
 use Rattle.array.proofs.lookup.place_at.Statement.{statement}
 use Rattle.array.proofs.lookup.place_at.Tie as tie
 

@@ -8,9 +8,9 @@ use Rattle.space.proofs.VectorLaws.{sized-up}
 use Rattle.verdict.specs.Replies.{Says}
 use Rattle.verdict.specs.declared.Verdict.the-variants.{Accepted}
 use Rattle.verdict.proofs.Fits.{low-sized, high-sized}
-use Rattle.array.specs.Ticks.{works, pointAt}
+use Rattle.tick.specs.Ticks.{works, pointAt}
 use Rattle.array.proofs.ReplyLaws.{not-accepted, accepted-limits, accepted-frames}
-use Rattle.array.proofs.PointLaws.{last-below}
+use Rattle.tick.proofs.PointLaws.{last-below}
 use Rattle.array.proofs.lookup.point_at.Statement.{statement}
 use Rattle.array.proofs.lookup.point_at.Tie as tie
 

@@ -1,0 +1,7 @@
+pub mod FrameLaws
+pub mod RoomLaws
+pub mod LendingLaws
+pub mod WorkLaws
+pub mod StoreLaws
+pub mod PointLaws
+pub mod TickLaws

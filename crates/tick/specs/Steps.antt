@@ -1,0 +1,116 @@
+-- What the steps of a tick hold; only contracts of private functions cite these.
+use mathlib.Core.Path.{_≡_}
+use mathlib.Core.Bool.{cond}
+use mathlib.Core.List.{List, [], _∷_}
+use Prim.Native.Nat.{ℕ, _*_, _%_, _<_, _≤_}
+use lib.ListN.{length, getD, drop}
+use lib.IntN.{ℤ}
+use Rattle.space.specs.Vectors.{entries}
+use Rattle.space.specs.Boxes.{Box, across, leastOf, greatestOf}
+use Rattle.job.specs.declared.Job.{Job}
+use Rattle.job.specs.Limits.{Acceptable}
+use Rattle.verdict.specs.Mapping.{box, hop}
+use Rattle.verdict.specs.Rules.{Ahead, Even}
+use Rattle.bands.specs.Bands.{rectangleOf, hopOf, at, given, Lent}
+use Rattle.bands.specs.declared.Band.{Band}
+use Rattle.loops.specs.Tables.{points, entryFor}
+use Rattle.tick.specs.Frames.{reach, rectangle, cells, clock, ticks, tickOf, cellOf, w, from, room, held}
+use Rattle.tick.specs.Ticks.{lastOf, works, arrival, fresh}
+use Rattle.tick.specs.declared.frame.Frame.{Frame}
+use Rattle.tick.specs.declared.frame.Bands.{Bands}
+use Rattle.tick.specs.declared.frame.Reach.{Reach}
+
+-- precedence over all streams
+abbrev pub AllAhead : Job → Type 0
+AllAhead j = (s : ℕ) → s < j .m → Ahead j s
+
+-- what a job that may run has: it keeps the limits, precedence and hop, and its room is inside the size limit
+pub record Runnable (j : Job) : Type 0 where
+  pub acceptable : Acceptable j
+  pub ahead : AllAhead j
+  pub even : (s : ℕ) → s < j .m → Even j s
+  pub few : room j ≤ 8192
+
+-- r is the reach of a row over the box
+pub record Reaches (h : List ℤ) (B : Box) (r : Reach) : Type 0 where
+  pub low : r .low ≡ leastOf h B
+  pub high : r .high ≡ greatestOf h B
+  pub count : r .count ≡ across (reach h B)
+
+-- b is the shape of the band of stream s
+pub record Banded (j : Job) (s : ℕ) (b : Band) : Type 0 where
+  pub rectangle : rectangleOf b ≡ rectangle j
+  pub hop : hopOf b ≡ hop j s
+  pub delay : b .w ≡ w j s
+
+abbrev pub bandAt : Bands → ℕ → Band
+bandAt bands s = getD (bands .band0 ∷ bands .band1 ∷ bands .band2 ∷ bands .band3 ∷ []) s (bands .band0)
+
+abbrev pub AllBanded : Job → Bands → Type 0
+AllBanded j bands = (s : ℕ) → s < j .m → Banded j s (bandAt bands s)
+
+-- f holds the numbers of the job's array
+pub record Framed (j : Job) (f : Frame) : Type 0 where
+  pub points : f .points ≡ points j
+  pub start : f .start ≡ clock j .low
+  pub low0 : f .low0 ≡ leastOf (entries (j .row0)) (box j)
+  pub high0 : f .high0 ≡ greatestOf (entries (j .row0)) (box j)
+  pub low1 : f .low1 ≡ leastOf (entries (j .row1)) (box j)
+  pub high1 : f .high1 ≡ greatestOf (entries (j .row1)) (box j)
+  pub columns : f .columns ≡ across (reach (entries (j .row1)) (box j))
+  pub cells : f .cells ≡ cells j
+  pub bands : AllBanded j (f .bands)
+
+-- the first n entries of a timetable are the ticks of the first n points
+pub record Timed (j : Job) (n : ℕ) (timetable : List ℕ) : Type 0 where
+  pub size : points j ≤ length timetable
+  pub ticks : (k : ℕ) → k < n → getD timetable k 0 ≡ tickOf j k
+
+-- a job that may run with its frame, and a table with a column for each point
+pub record Tabled (j : Job) (f : Frame) (table : List ℕ) : Type 0 where
+  pub runnable : Runnable j
+  pub framed : Framed j f
+  pub size : length table ≡ j .m * points j
+
+-- the places suffice
+pub record Roomy (j : Job) (places : List ℕ) : Type 0 where
+  pub enough : room j ≤ length places
+
+-- the point at place k is worked if its tick is t; the other columns are as before
+pub record Point (j : Job) (input : List ℕ) (t : ℕ) (places : List ℕ) (k : ℕ) (before after : List ℕ) : Type 0 where
+  pub size : length after ≡ length before
+  pub worked : (s : ℕ) → s < j .m → tickOf j k ≡ t → entryFor j after s k ≡ fresh j input t places s (cellOf j k) k
+  pub spared : (s q : ℕ) → s < j .m → q < points j → (q ≡ k → tickOf j k ≡ t → ⊥) → entryFor j after s q ≡ entryFor j before s q
+
+-- the same of the first n points
+pub record Points (j : Job) (input : List ℕ) (t : ℕ) (places : List ℕ) (n : ℕ) (before after : List ℕ) : Type 0 where
+  pub size : length after ≡ length before
+  pub worked : (s k : ℕ) → s < j .m → k < n → tickOf j k ≡ t → entryFor j after s k ≡ fresh j input t places s (cellOf j k) k
+  pub spared : (s k : ℕ) → s < j .m → k < points j → (k < n → tickOf j k ≡ t → ⊥) → entryFor j after s k ≡ entryFor j before s k
+
+-- a band of stream s is lent with its shape, for tick t
+pub record Band-lent (j : Job) (s t : ℕ) (b : Band) (slot : ℕ) (band : List ℕ) : Type 0 where
+  pub banded : Banded j s b
+  pub turn : slot ≡ t % w j s
+  pub lent : Lent b slot band
+
+-- place slot of the cells of a band is rewritten by f, the other places stay
+pub record Slot (j : Job) (s slot : ℕ) (f : ℕ → ℕ) (before after : List ℕ) : Type 0 where
+  pub size : length after ≡ length before
+  pub here : (x : ℕ) → x < cells j → at (w j s) after x slot ≡ f x
+  pub others : (x r : ℕ) → x < cells j → r < w j s → (r ≡ slot → ⊥) → at (w j s) after x r ≡ at (w j s) before x r
+
+-- the value of the point at place k where it is worked at x in tick t, or what is there
+abbrev pub putOne : Job → ℕ → ℕ → ℕ → List ℕ → ℕ → List ℕ → ℕ → ℕ
+putOne j t s slot values k band x = cond (works j t x k) (entryFor j values s k) (at (w j s) band x slot)
+
+-- the value of the point worked at x among the first n, or else other
+abbrev pub workedOr : Job → ℕ → ℕ → List ℕ → ℕ → ℕ → ℕ → ℕ
+workedOr j t s values n x other = given (lastOf (works j t x) n) other (λ (k : ℕ). entryFor j values s k)
+
+-- the bands of the first n streams are stored
+pub record Stored (j : Job) (t : ℕ) (values : List ℕ) (n : ℕ) (places places′ : List ℕ) : Type 0 where
+  pub size : length places′ ≡ length places
+  pub stores : (s x : ℕ) → s < n → x < cells j → held j places′ s x (t % w j s) ≡ workedOr j t s values (points j) x (arrival j t places s x)
+  pub keeps : (s x r : ℕ) → s < n → x < cells j → r < w j s → (r ≡ t % w j s → ⊥) → held j places′ s x r ≡ held j places s x r
+  pub beyond : drop (from j n) places′ ≡ drop (from j n) places
