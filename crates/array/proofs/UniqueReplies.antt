@@ -12,7 +12,7 @@ use lib.ListN.{length}
 use lib.IntN.{ℤ}
 use Rattle.space.specs.declared.Vector.{Vector}
 use Rattle.space.specs.Vectors.{entries}
-use Rattle.space.specs.Boxes.{pointOf}
+use Rattle.boxes.specs.Boxes.{pointOf}
 use Rattle.space.proofs.VectorLaws.{unfour}
 use Rattle.job.specs.declared.Job.{Job}
 use Rattle.job.specs.Refusals.{Checks, done, check, First, andThen}
@@ -20,7 +20,7 @@ use Rattle.job.proofs.Refusing.{first-unique}
 use Rattle.reader.specs.Reading.{Reads}
 use Rattle.reader.specs.declared.Reply.the-variants as Read
 use Rattle.reader.proofs.Theorems.{reads-unique}
-use Rattle.verdict.specs.Mapping.{box}
+use Rattle.mapping.specs.Mapping.{box}
 use Rattle.verdict.specs.Replies.{Says, numberOf as numberIn}
 use Rattle.verdict.specs.declared.Size.{Size}
 use Rattle.verdict.specs.declared.Verdict.{Verdict}

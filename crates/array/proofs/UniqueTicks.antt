@@ -8,9 +8,9 @@ use native.Mathlib.Decide.{ℕ-discrete, decLe}
 use native.Mathlib.Omega.{arith}
 use lib.ListN.{length, getD, drop}
 use lib.Seq.{ext-getD, getD-drop}
-use Rattle.space.proofs.BoxLaws.{solid-count}
+use Rattle.boxes.proofs.BoxLaws.{solid-count}
 use Rattle.job.specs.declared.Job.{Job}
-use Rattle.verdict.specs.Mapping.{box}
+use Rattle.mapping.specs.Mapping.{box}
 use Rattle.loops.specs.Tables.{points, entryFor}
 use Rattle.tick.specs.Frames.{cells, tickOf, w, from, room, held}
 use Rattle.tick.specs.Ticks.{Ticked}

@@ -5,11 +5,11 @@ use mathlib.Core.List.{List}
 use mathlib.Core.Option.{none, some}
 use Prim.Native.Nat.{ℕ}
 use Rattle.space.specs.Vectors.{entries}
-use Rattle.space.specs.Boxes.{pointOf}
+use Rattle.boxes.specs.Boxes.{pointOf}
 use Rattle.job.specs.declared.Job.{Job}
 use Rattle.reader.specs.Reading.{Reads}
 use Rattle.reader.specs.declared.Reply.the-variants as Read
-use Rattle.verdict.specs.Mapping.{box}
+use Rattle.mapping.specs.Mapping.{box}
 use Rattle.verdict.specs.Replies.{Says, numberOf}
 use Rattle.verdict.specs.declared.Verdict.the-variants.{Accepted, Limit}
 use Rattle.verdict.specs.declared.Size.{Size}

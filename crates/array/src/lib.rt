@@ -158,7 +158,7 @@ fn lacking(j: Job, size: Size, input: usize, values: usize, places: usize) -> Re
     requires { ⌜ Acceptable j ⌝ }
     ensures { λ r. ⌜ Lacks (runChecks j input values places) size r ⌝ }
 {
-    let table = loops::looped::place_in_table(j.m, space::bounds::count(j.bounds), 0);
+    let table = loops::looped::place_in_table(j.m, boxes::count(j.bounds), 0);
     if (input != table) | (values != table) {
         return Reply::Tables;
     }

@@ -1,11 +1,11 @@
 // The point worked in a tick at a cell.
+use boxes::Found;
 use job::Job;
 use space::Vector;
-use space::bounds::Found;
 use tick::frame::Frame;
 use verdict::Verdict;
 ghost use mathlib.Core.Path.{_≡_};
-ghost use Rattle.space.specs.Boxes.{foundOf};
+ghost use Rattle.boxes.specs.Boxes.{foundOf};
 ghost use Rattle.job.specs.Limits.{Acceptable};
 ghost use Rattle.tick.specs.Ticks.{pointAt};
 ghost use Rattle.array.specs.Lookups.{Looks, LooksOf};
@@ -28,7 +28,7 @@ pub fn point_at(j: Job, t: u64, x: u64) -> Worked
     };
     let found = place_at(j, tick::frame::frame_of(j), t, x);
     match found {
-        Found::At(k) => Worked::At(space::bounds::point(j.bounds, k)),
+        Found::At(k) => Worked::At(boxes::point(j.bounds, k)),
         Found::Nowhere => Worked::Nowhere,
     }
 }
@@ -52,7 +52,7 @@ fn place_at(j: Job, f: Frame, t: u64, x: u64) -> Found
     let mut k = f.points;
     while 0 < k {
         k -= 1;
-        let p = space::bounds::point(j.bounds, k);
+        let p = boxes::point(j.bounds, k);
         if (tick::frame::tick_at(j, f, p, k) == t) & (tick::frame::cell_at(j, f, p, k) == x) {
             return Found::At(k);
         }

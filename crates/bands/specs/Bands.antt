@@ -6,7 +6,7 @@ use Prim.Native.Nat.{ℕ, _+_, _*_, _<_, _≤_}
 use lib.ListN.{length, getD}
 use lib.IntN.{ℤ}
 use Rattle.space.specs.Numbers.{Size, limit}
-use Rattle.space.specs.Boxes.{Box, side, Solid, countOf, backOf}
+use Rattle.boxes.specs.Boxes.{Box, side, Solid, countOf, backOf}
 use Rattle.bands.specs.declared.Band.{Band}
 
 -- the rectangle of cells, and one hop

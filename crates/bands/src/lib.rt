@@ -1,10 +1,10 @@
 // One stream's band of register places: the cells of a rectangle, row by row, w places each. In a tick one place of every cell takes what arrives there from one hop back.
-use space::bounds::Found;
+use boxes::Found;
 ghost use mathlib.Core.Path.{_≡_};
 ghost use mathlib.Core.Bool.{true, false};
 ghost use mathlib.Core.Option.{some};
 ghost use Prim.Native.Nat.{ℕ, _<_, _≤_};
-ghost use Rattle.space.specs.Boxes.{backOf, countOf, foundOf};
+ghost use Rattle.boxes.specs.Boxes.{backOf, countOf, foundOf};
 ghost use Rattle.bands.specs.Bands.{rectangleOf, hopOf, arrivalIn, Shaped, Lent, Shifted};
 ghost use Rattle.bands.specs.Turns.{turnOf};
 
@@ -27,11 +27,8 @@ pub fn behind(b: Band, x: u64) -> Found
     let columns = (b.high1 - b.low1) as u64 + 1;
     let y0 = b.low0 + (x / columns) as i64 - b.hop0;
     let y1 = b.low1 + (x % columns) as i64 - b.hop1;
-    if space::bounds::within(b.low0, y0, b.high0) & space::bounds::within(b.low1, y1, b.high1) {
-        Found::At(
-            space::bounds::steps_above(b.low0, y0) * columns
-                + space::bounds::steps_above(b.low1, y1),
-        )
+    if boxes::within(b.low0, y0, b.high0) & boxes::within(b.low1, y1, b.high1) {
+        Found::At(boxes::steps_above(b.low0, y0) * columns + boxes::steps_above(b.low1, y1))
     } else {
         Found::Nowhere
     }

@@ -8,32 +8,34 @@ use lib.ListN.{getD}
 use lib.IntN.{ℤ, pos, natAbs, _-ℤ_, _*ℤ_}
 use lib.Signed.{quotZ}
 use Rattle.space.specs.declared.Vector.{Vector}
-use Rattle.space.specs.declared.bounds.Bounds.{Bounds}
+use Rattle.boxes.specs.declared.Bounds.{Bounds}
 use Rattle.space.specs.Vectors.{entries, dotOf, plusOf, minusOf, timesOf}
 use Rattle.space.specs.Divisors.{gcdOf}
-use Rattle.space.specs.Boxes.{boxOf, Solid, countOf, placeOf, pointOf, cornerOf, leastOf, greatestOf}
+use Rattle.boxes.specs.Boxes.{boxOf, Solid, countOf, placeOf, pointOf, cornerOf, leastOf, greatestOf}
 use Rattle.space.proofs.Ints.{times-none, whole-quot}
 use Rattle.space.proofs.VectorLaws.{minus-plus}
 use Rattle.space.proofs.MultipleLaws.{times-cancel}
-use Rattle.space.proofs.BoxLaws.{place-below}
-use Rattle.space.proofs.ExtremeLaws.{least-is, greatest-is}
-use Rattle.space.proofs.PairLaws.{startOf, start-in, start-least, in-apart, apart-in}
-use Rattle.space.proofs.PairLaws as PairLaws
+use Rattle.boxes.proofs.BoxLaws.{place-below}
+use Rattle.boxes.proofs.ExtremeLaws.{least-is, greatest-is}
+use Rattle.boxes.proofs.PairLaws.{startOf, start-in, start-least, in-apart, apart-in}
+use Rattle.boxes.proofs.PairLaws as PairLaws
 use Rattle.job.specs.declared.Job.{Job}
 use Rattle.job.specs.Refusals.{First}
 use Rattle.job.specs.Limits.{limits}
 use Rattle.job.proofs.Refusing.{accepted}
-use Rattle.verdict.specs.Mapping.{box, stream, along, H, S, g, Stationary, delays}
-use Rattle.verdict.specs.Rules.{Ahead, Even, Collide, Meeting, senders, Keeps, Span, Sizes}
+use Rattle.mapping.specs.Mapping.{box, stream, along, H, S, g, Stationary, delays}
+use Rattle.mapping.specs.Collisions.{Collide, senders}
+use Rattle.mapping.specs.Courses.{placed}
+use Rattle.mapping.specs.Searches.{Still, Meets, Finds-gap}
+use Rattle.mapping.specs.declared.walk.Gap.{Gap}
+use Rattle.mapping.specs.declared.walk.Gap.the-variants as Gap
+use Rattle.verdict.specs.Rules.{Ahead, Even, Meeting, Keeps, Span, Sizes}
 use Rattle.verdict.specs.Replies.{Lowest, FirstPair, Says}
-use Rattle.verdict.specs.Courses.{placed}
-use Rattle.verdict.specs.Searches.{Finds, Still, Meets, Finds-gap, Finds-crowd, Finds-jam, Finds-jams}
+use Rattle.verdict.specs.Searches.{Finds, Finds-crowd, Finds-jam, Finds-jams}
 use Rattle.verdict.specs.declared.Size.{Size}
 use Rattle.verdict.specs.declared.Pair.{Pair}
 use Rattle.verdict.specs.declared.Verdict.{Verdict}
 use Rattle.verdict.specs.declared.Verdict.the-variants.{Accepted, Limit, Precedence, Hop, Cell, Link}
-use Rattle.verdict.specs.declared.walk.Gap.{Gap}
-use Rattle.verdict.specs.declared.walk.Gap.the-variants as Gap
 use Rattle.verdict.specs.declared.rules.Broken.{Broken}
 use Rattle.verdict.specs.declared.rules.Broken.the-variants as Broken
 use Rattle.verdict.specs.declared.rules.Crowd.{Crowd}
@@ -42,10 +44,10 @@ use Rattle.verdict.specs.declared.rules.Jam.{Jam}
 use Rattle.verdict.specs.declared.rules.Jam.the-variants as Jam
 use Rattle.decisions.proofs.Decisions.{Decided, holding, failing, alike, both, contrary, given, below, atMost, divides, atMostℤ, equalℤ, same, cases}
 use Rattle.decisions.proofs.LimitDecisions.{number}
+use Rattle.mapping.proofs.Gaps.{zerosOf, Spread, Passed, passed-first, passed-more, gap-found, gap-nowhere}
+use Rattle.mapping.proofs.Gaps as Gaps
+use Rattle.mapping.proofs.Meetings.{unit-of, unit-nonzero, apart-times, times-apart}
 use Rattle.verdict.proofs.FirstPairs.{ByGap, cell-by-gap, link-by-gap, meets-meeting, no-pair, first-pair}
-use Rattle.verdict.proofs.Gaps.{zerosOf, Spread, Passed, passed-first, passed-more, gap-found, gap-nowhere}
-use Rattle.verdict.proofs.Gaps as Gaps
-use Rattle.verdict.proofs.Meetings.{unit-of, unit-nonzero, apart-times, times-apart}
 use Rattle.verdict.proofs.SizeLaws.{span-is}
 
 -- ---- precedence and hop: the lowest of m streams of which P does not hold

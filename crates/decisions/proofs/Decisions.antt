@@ -13,7 +13,7 @@ use Rattle.space.specs.Numbers.{Tells}
 use Rattle.space.specs.Vectors.{Sizes, Sized}
 use Rattle.space.specs.Divisors.{GcdOf, gcdOf}
 use Rattle.space.specs.Order.{Forward}
-use Rattle.space.specs.Boxes.{Box, Solid}
+use Rattle.boxes.specs.Boxes.{Box, Solid}
 use Rattle.space.proofs.Ints.{≤ℤ-antisymm}
 use Rattle.space.proofs.Machine.{never, tells-lt, tells-leZ}
 use Rattle.space.proofs.DivisorLaws.{gcd-is, gcd-more, gcd-unique}

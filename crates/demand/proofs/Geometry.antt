@@ -10,17 +10,17 @@ use lib.ListN.{length}
 use lib.IntN.{ℤ, pos, negℤ, natAbs, _+ℤ_, _-ℤ_, _*ℤ_}
 use Rattle.space.specs.Vectors.{entries, plusOf, minusOf, timesOf}
 use Rattle.space.specs.Order.{Before}
-use Rattle.space.specs.Boxes.{In, placeOf, pointOf, backOf}
+use Rattle.boxes.specs.Boxes.{In, placeOf, pointOf, backOf}
 use Rattle.space.proofs.Parts.{int, sum, difference, product, parts, ring⊖, int⊖}
 use Rattle.space.proofs.Ints.{natAbs-neg, natAbs-*}
 use Rattle.space.proofs.VectorLaws.{dot-minus, dot-times, minus-plus, times-length}
 use Rattle.space.proofs.OrderLaws.{before-total}
-use Rattle.space.proofs.BoxLaws.{in-length, point-in, place-point, point-place, place-injective, steps-back, convex}
-use Rattle.space.proofs.BackLaws.{back-some, back-here, back-below}
+use Rattle.boxes.proofs.BoxLaws.{in-length, point-in, place-point, point-place, place-injective, steps-back, convex}
+use Rattle.boxes.proofs.BackLaws.{back-some, back-here, back-below}
 use Rattle.job.specs.declared.Job.{Job}
 use Rattle.job.proofs.Accepting.{stream-sound}
-use Rattle.verdict.specs.Mapping.{box, stream, along, H, S, g, Stationary, orOne, hops, hop, delay}
-use Rattle.verdict.proofs.Courses.{stationary-none, hops-moving, place-whole}
+use Rattle.mapping.specs.Mapping.{box, stream, along, H, S, g, Stationary, orOne, hops, hop, delay}
+use Rattle.mapping.proofs.Courses.{stationary-none, hops-moving, place-whole}
 use Rattle.loops.specs.Tables.{points}
 use Rattle.loops.specs.Loops.{previous}
 use Rattle.tick.specs.Frames.{rectangle, clock, tickOf, cellOf, w}

@@ -3,9 +3,9 @@ use mathlib.Core.Path.{_≡_, refl}
 use mathlib.Core.List.{List}
 use mathlib.Core.Option.{none, some}
 use Prim.Native.Nat.{ℕ}
-use Rattle.space.proofs.BackLaws.{back-below}
+use Rattle.boxes.proofs.BackLaws.{back-below}
 use Rattle.job.specs.declared.Job.{Job}
-use Rattle.verdict.specs.Mapping.{hops}
+use Rattle.mapping.specs.Mapping.{hops}
 use Rattle.loops.specs.Tables.{entryFor}
 use Rattle.loops.specs.Loops.{previous}
 use Rattle.loops.proofs.LoopLaws.{same-work}

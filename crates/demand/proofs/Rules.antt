@@ -11,12 +11,12 @@ use Rattle.space.specs.Vectors.{minusOf}
 use Rattle.space.proofs.Parts.{int, product}
 use Rattle.space.proofs.Ints.{dvd-whole}
 use Rattle.job.specs.declared.Job.{Job}
-use Rattle.verdict.specs.Mapping.{stream, along, H, g, orOne, hops, delay}
-use Rattle.verdict.specs.Rules.{Collide}
+use Rattle.mapping.specs.Mapping.{stream, along, H, g, orOne, hops, delay}
+use Rattle.mapping.specs.Collisions.{Collide}
+use Rattle.mapping.proofs.Courses.{stationary-none, hops-some}
 use Rattle.verdict.specs.Replies.{Says}
 use Rattle.verdict.specs.declared.Size.{Size}
 use Rattle.verdict.specs.declared.Verdict.the-variants.{Accepted}
-use Rattle.verdict.proofs.Courses.{stationary-none, hops-some}
 use Rattle.tick.specs.Frames.{w}
 use Rattle.demand.specs.Rules.{Moving, Apart, Obeys}
 

@@ -7,7 +7,7 @@ use lib.ListN.{length}
 use lib.IntN.{ℤ, pos, negsuc}
 use Rattle.space.specs.declared.Vector.{Vector}
 use Rattle.space.specs.Vectors.{minusOf}
-use Rattle.space.specs.Boxes.{countOf, placeOf, pointOf, backOf}
+use Rattle.boxes.specs.Boxes.{countOf, placeOf, pointOf, backOf}
 use Rattle.job.specs.declared.Stream.{Stream}
 use Rattle.job.specs.declared.Job.{Job}
 use Rattle.job.specs.Record.{zeroVector, noStream}

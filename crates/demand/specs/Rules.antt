@@ -7,8 +7,9 @@ use lib.Signed.{_≤ℤ_}
 use Rattle.space.specs.Vectors.{minusOf, timesOf}
 use Rattle.job.specs.declared.Job.{Job}
 use Rattle.job.specs.Limits.{Acceptable}
-use Rattle.verdict.specs.Mapping.{box, stream, along, H, S, g, Stationary, hop as e, delay as w}
-use Rattle.verdict.specs.Rules.{Pair, senders}
+use Rattle.mapping.specs.Mapping.{box, stream, along, H, S, g, Stationary, hop as e, delay as w}
+use Rattle.mapping.specs.Collisions.{senders}
+use Rattle.verdict.specs.Rules.{Pair}
 
 -- 'Sd is not 0', and the two kinds of such a stream's tokens
 abbrev pub Moving : Job → ℕ → Type 0

@@ -1,8 +1,8 @@
 // The job as a record, and whether a record is acceptable.
 pub mod limits;
 
+use boxes::Bounds;
 use space::Vector;
-use space::bounds::Bounds;
 ghost use mathlib.Core.Path.{_≡_};
 ghost use Prim.Native.Nat.{_<_};
 ghost use lib.ListN.{getD};

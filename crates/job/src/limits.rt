@@ -1,8 +1,8 @@
 // Whether a record is acceptable: refusals 3, 6, 7 and 8, each a question of its own.
 use crate::Job;
 use crate::Stream;
+use boxes::Bounds;
 use space::Vector;
-use space::bounds::Bounds;
 ghost use mathlib.Core.Path.{_≡_};
 ghost use Prim.Native.Nat.{_+_, _<_, _≤_};
 ghost use mathlib.Core.Bool.{true, false};
@@ -63,7 +63,7 @@ pub fn is_boxed(b: Bounds) -> bool
         return false;
     }
     // the low corner is a point of the box exactly if l ≤ u for each
-    space::bounds::contains(b, l) & (space::bounds::count(b) <= POINT_LIMIT)
+    boxes::contains(b, l) & (boxes::count(b) <= POINT_LIMIT)
 }
 
 // 7: every stream that is used keeps its line.

@@ -9,9 +9,9 @@ use lib.ListN.{length, getD, take, drop, length-append}
 use lib.Seq.{take-at, drop-at}
 use lib.IntN.{ℤ, pos}
 use Rattle.space.specs.declared.Vector.{Vector}
-use Rattle.space.specs.declared.bounds.Bounds.{Bounds}
+use Rattle.boxes.specs.declared.Bounds.{Bounds}
 use Rattle.space.specs.Vectors.{entries}
-use Rattle.space.specs.Boxes.{Side, boxOf}
+use Rattle.boxes.specs.Boxes.{Side, boxOf}
 use Rattle.space.proofs.VectorLaws.{unfour}
 use Rattle.job.specs.declared.Stream.{Stream}
 use Rattle.job.specs.declared.Job.{Job}

@@ -6,7 +6,7 @@ use lib.IntN.{ℤ, pos, negsuc}
 use lib.Signed.{_≤ℤ_}
 use Rattle.space.specs.declared.Vector.{Vector}
 use Rattle.space.specs.Vectors.{entries}
-use Rattle.space.specs.Boxes.{Side, boxOf}
+use Rattle.boxes.specs.Boxes.{Side, boxOf}
 use Rattle.job.specs.declared.Stream.{Stream}
 use Rattle.job.specs.declared.Job.{Job}
 use Rattle.job.specs.Record.{streamsOf, rowsOf}

@@ -12,17 +12,17 @@ use lib.IntN.{ℤ}
 use lib.Seq.{getD-set-same, getD-set-other}
 use Rattle.space.specs.Numbers.{difference}
 use Rattle.space.specs.Vectors.{entries, Sized}
-use Rattle.space.specs.Boxes.{In, pointOf}
+use Rattle.boxes.specs.Boxes.{In, pointOf}
 use Rattle.space.proofs.VectorLaws.{sized-up}
-use Rattle.space.proofs.BoxLaws.{solid-count, point-in}
-use Rattle.space.proofs.BackLaws.{back-before}
+use Rattle.boxes.proofs.BoxLaws.{solid-count, point-in}
+use Rattle.boxes.proofs.BackLaws.{back-before}
 use Rattle.job.specs.declared.Job.{Job}
 use Rattle.job.specs.Refusals.{done, check, First}
 use Rattle.job.specs.Limits.{limits, Acceptable}
 use Rattle.job.proofs.Refusing.{Passes, then-first}
 use Rattle.job.proofs.Accepting.{stream-sound}
-use Rattle.verdict.specs.Mapping.{box, stream, along}
-use Rattle.verdict.proofs.Fits.{low-sized, high-sized, solid}
+use Rattle.mapping.specs.Mapping.{box, stream, along}
+use Rattle.mapping.proofs.Fits.{low-sized, high-sized, solid}
 use Rattle.loops.specs.Tables.{points, entryFor}
 use Rattle.loops.specs.Cells.{ruled, work}
 use Rattle.loops.specs.Loops.{previous, fromPrevious, incoming, Looped, loopChecks}

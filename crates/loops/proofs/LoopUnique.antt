@@ -9,14 +9,14 @@ use native.Mathlib.Decide.{ℕ-discrete}
 use native.Mathlib.Omega.{arith}
 use lib.ListN.{length, getD}
 use lib.Seq.{ext-getD}
-use Rattle.space.proofs.BoxLaws.{solid-count}
+use Rattle.boxes.proofs.BoxLaws.{solid-count}
 use Rattle.job.specs.declared.Job.{Job}
 use Rattle.job.specs.Refusals.{First}
 use Rattle.job.specs.Limits.{Acceptable}
 use Rattle.job.proofs.Refusing.{first-unique, Passes, first-passes}
 use Rattle.reader.specs.declared.Reply.the-variants as Read
 use Rattle.reader.proofs.Theorems.{reads-unique}
-use Rattle.verdict.specs.Mapping.{box}
+use Rattle.mapping.specs.Mapping.{box}
 use Rattle.loops.specs.Tables.{points, entryFor}
 use Rattle.loops.specs.Loops.{previous, fromPrevious, incoming, Looped, loopChecks, Loops}
 use Rattle.loops.specs.LoopBytes.{LoopsOf}

@@ -4,11 +4,11 @@ use mathlib.Core.List.{List}
 use mathlib.Core.Option.{Option, none, some}
 use Prim.Native.Nat.{ℕ, _*_, _<_}
 use lib.ListN.{length}
-use Rattle.space.specs.Boxes.{backOf}
+use Rattle.boxes.specs.Boxes.{backOf}
 use Rattle.job.specs.declared.Job.{Job}
 use Rattle.job.specs.Refusals.{Checks, done, check, First, andThen}
 use Rattle.job.specs.Limits.{limits}
-use Rattle.verdict.specs.Mapping.{box, along}
+use Rattle.mapping.specs.Mapping.{box, along}
 use Rattle.loops.specs.Tables.{points, entryFor}
 use Rattle.loops.specs.Cells.{work}
 use Rattle.loops.specs.declared.looped.Reply.{Reply}

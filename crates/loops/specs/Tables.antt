@@ -2,9 +2,9 @@
 use mathlib.Core.List.{List}
 use Prim.Native.Nat.{ℕ, _+_, _*_}
 use lib.ListN.{getD}
-use Rattle.space.specs.Boxes.{countOf}
+use Rattle.boxes.specs.Boxes.{countOf}
 use Rattle.job.specs.declared.Job.{Job}
-use Rattle.verdict.specs.Mapping.{box}
+use Rattle.mapping.specs.Mapping.{box}
 
 -- how many points the job has
 abbrev pub points : Job → ℕ

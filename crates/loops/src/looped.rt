@@ -1,14 +1,14 @@
 // The loop: points in box order.
+use boxes::Found;
 use job::Job;
 use space::Vector;
-use space::bounds::Found;
 ghost use mathlib.Core.Path.{_≡_};
 ghost use Prim.Native.Nat.{ℕ, _+_, _*_, _<_, _≤_};
 ghost use lib.ListN.{getD};
 ghost use Rattle.space.specs.Vectors.{entries};
-ghost use Rattle.space.specs.Boxes.{pointOf, foundOf};
+ghost use Rattle.boxes.specs.Boxes.{pointOf, foundOf};
 ghost use Rattle.job.specs.Limits.{Acceptable};
-ghost use Rattle.verdict.specs.Mapping.{box};
+ghost use Rattle.mapping.specs.Mapping.{box};
 ghost use Rattle.loops.specs.Tables.{points as pointsOf};
 ghost use Rattle.loops.specs.Loops.{previous, incoming, Looped, Loops};
 ghost use Rattle.loops.specs.LoopBytes.{LoopsOf};
@@ -28,7 +28,7 @@ pub fn loop_of(j: Job, input: &[u32], values: &mut [u32]) -> Reply
     if number != 0 {
         return Reply::Refused(number);
     }
-    let points = space::bounds::count(j.bounds);
+    let points = boxes::count(j.bounds);
     let size = place_in_table(j.m, points, 0);
     if input.len() != size {
         return Reply::Refused(13);
@@ -66,7 +66,7 @@ pub fn previous_at(j: Job, s: u8, p: Vector, k: u64) -> Found
     ensures { λ r. ⌜ foundOf r ≡ previous j s k ⌝ }
 {
     let t = job::stream_at(j, s);
-    space::bounds::back(j.bounds, t.d, p)
+    boxes::back(j.bounds, t.d, p)
 }
 
 // The incoming value of stream s at p, the point at place k.
@@ -126,12 +126,12 @@ fn fill(j: Job, input: &[u32], values: &mut [u32], points: u64)
     ensures { λ _. ⌜ Looped j (now (input .entry)) (now (values .exit)) ⌝ }
 {
     let b = j.bounds;
-    let mut p = space::bounds::point(b, 0);
+    let mut p = boxes::point(b, 0);
     let mut k: u64 = 0;
     while k < points {
         let got = incoming_all(j, input, &values[..], points, p, k);
         put_column(j, &mut values[..], points, k, got);
-        p = space::bounds::next(b, p);
+        p = boxes::next(b, p);
         k += 1;
     }
 }

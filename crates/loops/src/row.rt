@@ -11,7 +11,7 @@ pub fn row_of<'a>(j: Job, table: &'a [u32], s: u8) -> &'a [u32]
         return &table[..0];
     }
     let m = j.m as usize;
-    let points = space::bounds::count(j.bounds) as usize;
+    let points = boxes::count(j.bounds) as usize;
     if table.len() != m * points {
         return &table[..0];
     }

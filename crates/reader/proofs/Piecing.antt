@@ -8,9 +8,9 @@ use lib.IntN.{ℤ, pos}
 use lib.ListN.{length, take, drop, length-drop, take-append-drop, List·getD-eq-default}
 use lib.Seq.{take-all, length-take-le}
 use Rattle.space.specs.declared.Vector.{Vector}
-use Rattle.space.specs.declared.bounds.Bounds.{Bounds}
+use Rattle.boxes.specs.declared.Bounds.{Bounds}
 use Rattle.space.specs.Vectors.{entries}
-use Rattle.space.specs.Boxes.{Side, boxOf}
+use Rattle.boxes.specs.Boxes.{Side, boxOf}
 use Rattle.space.proofs.Parts.{int}
 use Rattle.job.specs.Record.{zeroVector}
 use Rattle.job.specs.Limits.{Unused}

@@ -5,8 +5,8 @@ use Prim.Native.Nat.{ℕ, _+_, _*_, _≤_, _<_}
 use lib.IntN.{ℤ}
 use lib.ListN.{length, take, drop}
 use Rattle.space.specs.declared.Vector.{Vector}
-use Rattle.space.specs.declared.bounds.Bounds.{Bounds}
-use Rattle.space.specs.Boxes.{Side, boxOf}
+use Rattle.boxes.specs.declared.Bounds.{Bounds}
+use Rattle.boxes.specs.Boxes.{Side, boxOf}
 use Rattle.job.specs.declared.Stream.{Stream}
 use Rattle.job.specs.Record.{noStream, zeroVector}
 use Rattle.job.specs.Limits.{Unused}

@@ -1,9 +1,9 @@
 // What follows the header: the box, the streams and the matrices, each piece from a part of the bytes.
 use crate::head;
+use boxes::Bounds;
 use job::Job;
 use job::Stream;
 use space::Vector;
-use space::bounds::Bounds;
 ghost use mathlib.Core.Path.{_≡_};
 ghost use Prim.Native.Nat.{ℕ, _+_, _*_, _≤_};
 ghost use lib.ListN.{length};

@@ -11,10 +11,10 @@ use crate::numbers::times;
 use crate::numbers::wide;
 use crate::points::with_entry;
 use crate::points::zeros;
+use boxes::Bounds;
 use job::Job;
 use job::Stream;
 use space::Vector;
-use space::bounds::Bounds;
 
 // The number after x: a linear congruential generator modulo 2^31.
 fn step(x: u64) -> u64 {

@@ -8,10 +8,10 @@ use crate::points::entry;
 use crate::points::is_blank;
 use crate::points::is_within;
 use crate::points::points;
+use boxes::Bounds;
 use job::Job;
 use job::Stream;
 use space::Vector;
-use space::bounds::Bounds;
 
 // The number of the first limit that is broken, 0 for none.
 pub fn limit(j: Job) -> u8 {

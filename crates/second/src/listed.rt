@@ -1,9 +1,9 @@
 // The small jobs of the paper.
 use crate::points::zeros;
+use boxes::Bounds;
 use job::Job;
 use job::Stream;
 use space::Vector;
-use space::bounds::Bounds;
 
 // A vector of two entries.
 pub fn two(x0: i64, x1: i64) -> Vector {

@@ -4,8 +4,8 @@ use crate::numbers::minus;
 use crate::numbers::plus;
 use crate::numbers::size;
 use crate::numbers::times;
+use boxes::Bounds;
 use space::Vector;
-use space::bounds::Bounds;
 
 // The vector of zeros.
 pub fn zeros() -> Vector {

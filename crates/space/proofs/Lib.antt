@@ -5,11 +5,4 @@ pub mod VectorLaws
 pub mod DivisorLaws
 pub mod MultipleLaws
 pub mod OrderLaws
-pub mod BoxLaws
-pub mod NextLaws
-pub mod ExtremeLaws
-pub mod Digits
-pub mod PairLaws
-pub mod Padding
 pub mod Telling
-pub mod BackLaws

@@ -3,4 +3,3 @@ pub mod Vectors
 pub mod Divisors
 pub mod Multiples
 pub mod Order
-pub mod Boxes

@@ -1,5 +1,4 @@
 // Signed vectors of up to four entries: arithmetic, divisors, multiples and box order. The layers above rest on what is stated here and on nothing more.
-pub mod bounds;
 pub mod divisor;
 pub mod multiple;
 

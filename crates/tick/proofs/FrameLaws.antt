@@ -11,19 +11,19 @@ use lib.IntN.{ℤ, pos, _+ℤ_, _-ℤ_}
 use lib.Signed.{_≤ℤ_}
 use Rattle.space.specs.Numbers.{Size, limit, entry, coordinate, up, steps}
 use Rattle.space.specs.Vectors.{entries, dotOf, Sized}
-use Rattle.space.specs.Boxes.{Box, In, Solid, across, countOf, placeOf, pointOf, leastOf, greatestOf, Least, Greatest}
+use Rattle.boxes.specs.Boxes.{Box, In, Solid, across, countOf, placeOf, pointOf, leastOf, greatestOf, Least, Greatest}
 use Rattle.space.proofs.Parts.{int, sum, difference}
 use Rattle.space.proofs.Ints.{size-up}
 use Rattle.space.proofs.Machine.{held, as-held}
-use Rattle.space.proofs.BoxLaws.{SidesSized, across-size, in-sized, point-in, place-below, steps-below, sides-sized}
-use Rattle.space.proofs.ExtremeLaws.{least-is, greatest-is, least-unique, greatest-unique, least-size}
+use Rattle.boxes.proofs.BoxLaws.{SidesSized, across-size, in-sized, point-in, place-below, steps-below, sides-sized}
+use Rattle.boxes.proofs.ExtremeLaws.{least-is, greatest-is, least-unique, greatest-unique, least-size}
 use Rattle.space.proofs.VectorLaws.{sized-up, dot-size}
 use Rattle.job.specs.declared.Job.{Job}
 use Rattle.job.specs.Limits.{Acceptable}
-use Rattle.verdict.specs.Mapping.{box, H, S, delays}
+use Rattle.mapping.specs.Mapping.{box, H, S, delays}
+use Rattle.mapping.proofs.Fits.{solid, row0-sized, row1-sized, low-sized, high-sized}
 use Rattle.verdict.specs.Rules.{Span, Sizes}
 use Rattle.verdict.specs.declared.Size.{Size as Counts}
-use Rattle.verdict.proofs.Fits.{solid, row0-sized, row1-sized, low-sized, high-sized}
 use Rattle.verdict.proofs.SizeLaws.{greatest-size}
 use Rattle.loops.specs.Tables.{points}
 use Rattle.tick.specs.Steps.{Timed}

@@ -12,9 +12,9 @@ use lib.Signed.{_≤ℤ_, quotZ}
 use Rattle.space.specs.Numbers.{up}
 use Rattle.space.proofs.Parts.{le-parts}
 use Rattle.job.specs.declared.Job.{Job}
-use Rattle.verdict.specs.Mapping.{H, along, g, orOne, delays}
+use Rattle.mapping.specs.Mapping.{H, along, g, orOne, delays}
+use Rattle.mapping.proofs.Courses.{stationary-none}
 use Rattle.verdict.specs.Rules.{Ahead, Even}
-use Rattle.verdict.proofs.Courses.{stationary-none}
 use Rattle.verdict.proofs.SizeLaws.{delays-next}
 use Rattle.tick.specs.Frames.{cells, w, from, room}
 use Rattle.tick.specs.Steps.{Runnable}

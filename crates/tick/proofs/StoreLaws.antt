@@ -12,7 +12,7 @@ use lib.Arith.{digits-lt}
 use lib.ListN.{length, getD, set, take, drop, length-append, length-drop, length-set}
 use lib.Seq.{length-take-le, take-at, drop-at, drop-drop, getD-take, getD-set-same, getD-set-other}
 use borrow.Author.Tests.{eq-eqb, ne-eqb}
-use Rattle.space.specs.Boxes.{Box, countOf}
+use Rattle.boxes.specs.Boxes.{Box, countOf}
 use Rattle.job.specs.declared.Job.{Job}
 use Rattle.bands.specs.Bands.{rectangleOf, at, given, arrivalIn, Shifted}
 use Rattle.bands.specs.declared.Band.{Band}

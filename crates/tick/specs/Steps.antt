@@ -6,10 +6,10 @@ use Prim.Native.Nat.{ℕ, _*_, _%_, _<_, _≤_}
 use lib.ListN.{length, getD, drop}
 use lib.IntN.{ℤ}
 use Rattle.space.specs.Vectors.{entries}
-use Rattle.space.specs.Boxes.{Box, across, leastOf, greatestOf}
+use Rattle.boxes.specs.Boxes.{Box, across, leastOf, greatestOf}
 use Rattle.job.specs.declared.Job.{Job}
 use Rattle.job.specs.Limits.{Acceptable}
-use Rattle.verdict.specs.Mapping.{box, hop}
+use Rattle.mapping.specs.Mapping.{box, hop}
 use Rattle.verdict.specs.Rules.{Ahead, Even}
 use Rattle.bands.specs.Bands.{rectangleOf, hopOf, at, given, Lent}
 use Rattle.bands.specs.declared.Band.{Band}

@@ -1,16 +1,16 @@
 // The numbers of a job's array, worked out once: the rectangle of cells, the clock's start, the streams' bands; and the tick and the cell of a point.
 use bands::Band;
+use boxes::Bounds;
 use job::Job;
 use space::Vector;
-use space::bounds::Bounds;
 ghost use mathlib.Core.Path.{_≡_};
 ghost use Prim.Native.Nat.{_<_, _≤_};
 ghost use lib.ListN.{length};
 ghost use Rattle.space.specs.Numbers.{entry, coordinate};
 ghost use Rattle.space.specs.Vectors.{entries, Sized};
-ghost use Rattle.space.specs.Boxes.{Solid, boxOf, pointOf};
+ghost use Rattle.boxes.specs.Boxes.{Solid, boxOf, pointOf};
 ghost use Rattle.job.specs.Limits.{Acceptable};
-ghost use Rattle.verdict.specs.Mapping.{box};
+ghost use Rattle.mapping.specs.Mapping.{box};
 ghost use Rattle.loops.specs.Tables.{points as pointsOf};
 ghost use Rattle.tick.specs.Frames.{tickOf, cellOf, cells};
 ghost use Rattle.tick.specs.Steps.{AllAhead, Reaches, Framed, Banded, bandAt, AllBanded, Timed};
@@ -47,12 +47,12 @@ fn reach_of(h: Vector, b: Bounds) -> Reach
     requires { ⌜ Sized entry (entries h) × Sized coordinate (entries (b .low)) × Sized coordinate (entries (b .high)) × Solid (boxOf b) ⌝ }
     ensures { λ r. ⌜ Reaches (entries h) (boxOf b) r ⌝ }
 {
-    let low = space::bounds::least(h, b);
-    let high = space::bounds::greatest(h, b);
+    let low = boxes::least(h, b);
+    let high = boxes::greatest(h, b);
     Reach {
         low,
         high,
-        count: space::bounds::steps_above(low, high + 1),
+        count: boxes::steps_above(low, high + 1),
     }
 }
 
@@ -66,7 +66,7 @@ pub fn frame_of(j: Job) -> Frame
     let second = reach_of(j.row1, b);
     let clock = reach_of(j.time, b);
     Frame {
-        points: space::bounds::count(b),
+        points: boxes::count(b),
         start: clock.low,
         low0: first.low,
         high0: first.high,
@@ -84,7 +84,7 @@ pub fn tick_at(j: Job, f: Frame, p: Vector, k: u64) -> u64
     ensures { λ r. ⌜ r ≡ tickOf j k ⌝ }
 {
     let h = j.time;
-    space::bounds::steps_above(f.start, space::dot(h, p))
+    boxes::steps_above(f.start, space::dot(h, p))
 }
 
 // The cell of p, the point at place k.
@@ -93,9 +93,9 @@ pub fn cell_at(j: Job, f: Frame, p: Vector, k: u64) -> u64
     ensures is { λ r. ⌜ r ≡ cellOf j k ⌝ }
     ensures inside { λ r. ⌜ r < cells j ⌝ }
 {
-    let v = verdict::course::placed(j, p);
-    let row = space::bounds::steps_above(f.low0, v.x1);
-    row * f.columns + space::bounds::steps_above(f.low1, v.x2)
+    let v = mapping::course::placed(j, p);
+    let row = boxes::steps_above(f.low0, v.x1);
+    row * f.columns + boxes::steps_above(f.low1, v.x2)
 }
 
 // The tick of every point, in box order.
@@ -105,12 +105,12 @@ pub fn fill_timetable(j: Job, f: Frame, timetable: &mut [u64])
 {
     let points = f.points;
     let b = j.bounds;
-    let mut p = space::bounds::point(b, 0);
+    let mut p = boxes::point(b, 0);
     let mut k: u64 = 0;
     while k < points {
         let i = k as usize;
         timetable[i] = tick_at(j, f, p, k);
-        p = space::bounds::next(b, p);
+        p = boxes::next(b, p);
         k += 1;
     }
 }
@@ -156,7 +156,7 @@ fn band_of(j: Job, rows: Reach, columns: Reach, s: u8) -> Band
     requires { ⌜ Acceptable j × AllAhead j × Reaches (entries (j .row0)) (box j) rows × Reaches (entries (j .row1)) (box j) columns × (s < j .m) ⌝ }
     ensures { λ r. ⌜ Banded j s r ⌝ }
 {
-    let c = verdict::course::course_of(j, s);
+    let c = mapping::course::course_of(j, s);
     let unit = c.unit;
     Band {
         low0: rows.low,

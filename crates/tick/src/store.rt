@@ -26,7 +26,7 @@ fn put_point(
 {
     let line = k as usize;
     if timetable[line] == t {
-        let x = crate::frame::cell_at(j, f, space::bounds::point(j.bounds, k), k);
+        let x = crate::frame::cell_at(j, f, boxes::point(j.bounds, k), k);
         let from = loops::looped::place_in_table(s, f.points, k);
         let i = (x * b.w + slot) as usize;
         band[i] = values[from];

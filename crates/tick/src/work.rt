@@ -1,15 +1,15 @@
 // The work of a tick: the values of its points, from places that nothing has changed yet.
 use crate::frame::Frame;
 use bands::Band;
+use boxes::Found;
 use job::Job;
 use space::Vector;
-use space::bounds::Found;
 ghost use mathlib.Core.Path.{_≡_};
 ghost use Prim.Native.Nat.{ℕ, _<_};
 ghost use lib.ListN.{getD};
 ghost use Rattle.space.specs.Vectors.{entries};
-ghost use Rattle.space.specs.Boxes.{pointOf};
-ghost use Rattle.verdict.specs.Mapping.{box};
+ghost use Rattle.boxes.specs.Boxes.{pointOf};
+ghost use Rattle.mapping.specs.Mapping.{box};
 ghost use Rattle.loops.specs.Tables.{points as pointsOf};
 ghost use Rattle.tick.specs.Frames.{tickOf, cells, from as fromOf};
 ghost use Rattle.tick.specs.Ticks.{incoming};
@@ -109,7 +109,7 @@ fn work_point(
 {
     let i = k as usize;
     if timetable[i] == t {
-        let p = space::bounds::point(j.bounds, k);
+        let p = boxes::point(j.bounds, k);
         work_column(j, f, t, input, &mut values[..], places, p, k);
     }
 }

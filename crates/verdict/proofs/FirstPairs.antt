@@ -7,16 +7,17 @@ use lib.ListN.{length}
 use lib.IntN.{ℤ, pos, _-ℤ_}
 use Rattle.space.specs.Vectors.{entries, dotOf, plusOf, minusOf}
 use Rattle.space.specs.Order.{Before, Forward, AtMost}
-use Rattle.space.specs.Boxes.{Box, In, Apart}
+use Rattle.boxes.specs.Boxes.{Box, In, Apart}
 use Rattle.space.proofs.Parts.{int, difference}
 use Rattle.space.proofs.VectorLaws.{plus-minus, minus-plus, minus-length, dot-minus}
 use Rattle.space.proofs.OrderLaws.{before-forward, forward-before}
-use Rattle.space.proofs.BoxLaws.{in-length}
+use Rattle.boxes.proofs.BoxLaws.{in-length}
 use Rattle.job.specs.declared.Job.{Job}
-use Rattle.verdict.specs.Mapping.{box, H, S, Stationary}
-use Rattle.verdict.specs.Rules.{Pair, SameCell, Meeting, senders}
+use Rattle.mapping.specs.Mapping.{box, H, S, Stationary}
+use Rattle.mapping.specs.Collisions.{senders}
+use Rattle.mapping.specs.Searches.{Still, Meets}
+use Rattle.verdict.specs.Rules.{Pair, SameCell, Meeting}
 use Rattle.verdict.specs.Replies.{FirstPair}
-use Rattle.verdict.specs.Searches.{Still, Meets}
 
 -- two points of a box are as long, and the second is the first and their difference
 module _ (B : Box) (p q : List ℤ) (w : Pair B p q) where

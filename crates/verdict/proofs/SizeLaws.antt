@@ -9,17 +9,17 @@ use lib.IntN.{ℤ, pos, negsuc, natAbs, _-ℤ_}
 use lib.Signed.{_≤ℤ_, quotZ}
 use Rattle.space.specs.Numbers.{up, Size}
 use Rattle.space.specs.Vectors.{Sized}
-use Rattle.space.specs.Boxes.{Box, Least, Greatest}
+use Rattle.boxes.specs.Boxes.{Box, Least, Greatest}
 use Rattle.space.proofs.Parts.{int, sum, difference, magnitude}
 use Rattle.space.proofs.Ints.{natAbs-quot}
 use Rattle.space.proofs.VectorLaws.{dot-size}
-use Rattle.space.proofs.BoxLaws.{SidesSized, in-sized}
+use Rattle.boxes.proofs.BoxLaws.{SidesSized, in-sized}
 use Rattle.job.specs.declared.Job.{Job}
 use Rattle.job.specs.Limits.{Acceptable}
-use Rattle.verdict.specs.Mapping.{along, H, hops, delay, delays}
+use Rattle.mapping.specs.Mapping.{along, H, hops, delay, delays}
 use Rattle.verdict.specs.Rules.{Ahead, Span}
 use Rattle.job.proofs.Accepting.{stream-sound}
-use Rattle.verdict.proofs.Fits.{time-sized}
+use Rattle.mapping.proofs.Fits.{time-sized}
 
 -- ---- the span of a row
 -- the size of the greatest product

@@ -10,17 +10,17 @@ use lib.IntN.{ℤ, pos}
 use Rattle.space.specs.declared.Vector.{Vector}
 use Rattle.space.specs.Vectors.{entries, plusOf, minusOf}
 use Rattle.space.specs.Order.{Before, AtMost}
-use Rattle.space.specs.Boxes.{Box}
+use Rattle.boxes.specs.Boxes.{Box}
 use Rattle.space.proofs.Parts.{int}
 use Rattle.space.proofs.VectorLaws.{plus-minus, unfour}
 use Rattle.space.proofs.MultipleLaws.{times-cancel}
 use Rattle.space.proofs.OrderLaws.{before-irreflexive, before-trans}
-use Rattle.space.proofs.ExtremeLaws.{least-unique, greatest-unique}
+use Rattle.boxes.proofs.ExtremeLaws.{least-unique, greatest-unique}
 use Rattle.job.specs.declared.Job.{Job}
 use Rattle.job.specs.Limits.{limits}
 use Rattle.job.proofs.Refusing.{first-unique, acceptable}
-use Rattle.verdict.specs.Mapping.{hop, delays}
-use Rattle.verdict.proofs.Courses.{hop-nonzero}
+use Rattle.mapping.specs.Mapping.{hop, delays}
+use Rattle.mapping.proofs.Courses.{hop-nonzero}
 use Rattle.verdict.specs.Rules.{Meeting, Kept, Keeps, Span, Sizes}
 use Rattle.verdict.specs.Replies.{Lowest, FirstPair, turn, Claims, Says}
 use Rattle.verdict.specs.declared.Size.{Size}

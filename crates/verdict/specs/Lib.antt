@@ -1,6 +1,4 @@
-pub mod Mapping
 pub mod Rules
 pub mod Replies
-pub mod Courses
 pub mod Searches
 pub mod Bytes

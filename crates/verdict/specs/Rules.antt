@@ -1,15 +1,16 @@
 -- 'Meaning of the verdict': precedence, hop, cell and link.
 use mathlib.Core.Path.{_≡_}
 use mathlib.Core.List.{List}
-use Prim.Native.Nat.{ℕ, zero, suc, _+_, _*_, _<_, _≤_, _∣_}
+use Prim.Native.Nat.{ℕ, zero, suc, _+_, _*_, _<_, _∣_}
 use lib.IntN.{ℤ, pos, natAbs, _+ℤ_, _-ℤ_, _*ℤ_}
 use lib.Signed.{_≤ℤ_}
 use Rattle.space.specs.Vectors.{entries, minusOf, timesOf}
 use Rattle.space.specs.Order.{Before}
-use Rattle.space.specs.Boxes.{Box, In, Least, Greatest}
+use Rattle.boxes.specs.Boxes.{Box, In, Least, Greatest}
 use Rattle.job.specs.declared.Job.{Job}
 use Rattle.job.specs.Limits.{Acceptable}
-use Rattle.verdict.specs.Mapping.{box, stream, along, H, S, g, Stationary, hop, delay, delays}
+use Rattle.mapping.specs.Mapping.{box, stream, along, H, S, g, Stationary, hop, delay, delays}
+use Rattle.mapping.specs.Collisions.{senders, Collide}
 use Rattle.verdict.specs.declared.Size.{Size}
 
 -- 'Precedence: Hd ≥ 1 for every stream'
@@ -31,15 +32,6 @@ pub record SameCell (j : Job) (p q : List ℤ) : Type 0 where
   pub pair : Pair (box j) p q
   pub time : H j p ≡ H j q
   pub place : S j p ≡ S j q
-
--- the points that send a token along the stream: 'every box point is taken to send its value'
-abbrev pub senders : Job → ℕ → Box
-senders j s = box j
-
--- 'Through: a collision unless y is a whole multiple of d. Local: a collision if 1 ≤ |f| ≤ g - 1'
-abbrev pub Collide : ℕ → List ℤ → ℕ → List ℤ → ℤ → Type 0
-Collide zero d g y f = (z : ℤ) → y ≡ timesOf z d → ⊥
-Collide (suc kind) d g y f = (1 ≤ natAbs f) × (natAbs f < g)
 
 -- 'Link, only where Sd is not 0. Take points p, q, p before q in box order, y = q - p, and suppose a whole number f has Sy = f·e and Hy = f·w'
 pub record Meeting (j : Job) (s : ℕ) (p q : List ℤ) (f : ℤ) : Type 0 where

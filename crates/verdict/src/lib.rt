@@ -1,22 +1,20 @@
 // The verdict on a job: accepted with its sizes, or the first broken rule with its stream and its first pair.
 pub mod bytes;
-pub mod course;
 pub mod numbers;
 mod rules;
-mod walk;
 
 use crate::rules::Broken;
 use crate::rules::Crowd;
 use crate::rules::Jam;
+use boxes::Bounds;
 use job::Job;
 use space::Vector;
-use space::bounds::Bounds;
 ghost use mathlib.Core.Path.{_≡_};
 ghost use Prim.Native.Nat.{ℕ, _<_, _≤_};
 ghost use Rattle.space.specs.Vectors.{entries, Sized};
-ghost use Rattle.space.specs.Boxes.{Solid, boxOf};
+ghost use Rattle.boxes.specs.Boxes.{Solid, boxOf};
 ghost use Rattle.job.specs.Limits.{Acceptable};
-ghost use Rattle.verdict.specs.Mapping.{delays};
+ghost use Rattle.mapping.specs.Mapping.{delays};
 ghost use Rattle.verdict.specs.Rules.{Ahead, Span, Sizes};
 ghost use Rattle.verdict.specs.Replies.{Says};
 
@@ -82,8 +80,8 @@ fn span(h: Vector, b: Bounds) -> u64
     ensures few { λ r. ⌜ r ≤ 129033 ⌝ }
     ensures is { λ r. ⌜ Span (entries h) (boxOf b) r ⌝ }
 {
-    let least = space::bounds::least(h, b);
-    let greatest = space::bounds::greatest(h, b);
+    let least = boxes::least(h, b);
+    let greatest = boxes::greatest(h, b);
     (greatest - least) as u64 + 1
 }
 
@@ -97,7 +95,7 @@ fn all_delays(j: Job) -> u64
     let mut s: u8 = 0;
     let mut sum: u64 = 0;
     while s < m {
-        let c = crate::course::course_of(j, s);
+        let c = mapping::course::course_of(j, s);
         let unit = c.unit;
         sum += space::divisor::size(unit.x0);
         s += 1;

@@ -1,9 +1,9 @@
 // The rules, each over all streams or all pairs.
 use crate::Clash;
 use crate::Pair;
-use crate::walk::Gap;
-use crate::walk::Met;
 use job::Job;
+use mapping::walk::Gap;
+use mapping::walk::Met;
 ghost use Prim.Native.Nat.{_<_};
 ghost use Rattle.space.specs.Numbers.{Tells};
 ghost use Rattle.job.specs.Limits.{Acceptable};
@@ -65,11 +65,11 @@ pub fn crowded(j: Job) -> Crowd
     requires { ⌜ Acceptable j ⌝ }
     ensures { λ r. ⌜ Finds-crowd j r ⌝ }
 {
-    let gap = crate::walk::cell_gap(j);
+    let gap = mapping::walk::cell_gap(j);
     let Gap::At(y) = gap else {
         return Crowd::Nowhere;
     };
-    let p = space::bounds::start(j.bounds, y);
+    let p = boxes::start(j.bounds, y);
     let q = space::plus(p, y);
     Crowd::At(Pair { p, q })
 }
@@ -109,7 +109,7 @@ fn is_even(j: Job, s: u8) -> bool
 {
     let t = job::stream_at(j, s);
     let d = t.d;
-    let v = crate::course::placed(j, d);
+    let v = mapping::course::placed(j, d);
     let g = space::divisor::gcd(space::divisor::size(v.x1), space::divisor::size(v.x2));
     if g == 0 {
         return true;
@@ -122,19 +122,19 @@ fn jam_of(j: Job, s: u8) -> Jam
     requires { ⌜ Acceptable j × (s < j .m) ⌝ }
     ensures { λ r. ⌜ Finds-jam j s r ⌝ }
 {
-    let c = crate::course::course_of(j, s);
+    let c = mapping::course::course_of(j, s);
     if c.g == 0 {
         return Jam::Nowhere;
     }
-    let gap = crate::walk::link_gap(j, s, c);
+    let gap = mapping::walk::link_gap(j, s, c);
     let Gap::At(y) = gap else {
         return Jam::Nowhere;
     };
-    let met = crate::walk::meeting(j, s, c, y);
+    let met = mapping::walk::meeting(j, s, c, y);
     let Met::Hops(f) = met else {
         return Jam::Nowhere;
     };
-    let p = space::bounds::start(j.bounds, y);
+    let p = boxes::start(j.bounds, y);
     let q = space::plus(p, y);
     Jam::At(Clash {
         stream: s,

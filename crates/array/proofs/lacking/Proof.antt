@@ -5,7 +5,7 @@ use Prim.Native.Nat.{ℕ, _*_}
 use native.Mathlib.Nat.{add-zero}
 use native.Mathlib.Omega.{arith}
 use Rattle.space.proofs.VectorLaws.{sized-up}
-use Rattle.verdict.proofs.Fits.{low-sized, high-sized}
+use Rattle.mapping.proofs.Fits.{low-sized, high-sized}
 use Rattle.loops.specs.Tables.{points}
 use Rattle.loops.proofs.LoopLaws.{few-streams, few-points}
 use Rattle.array.proofs.ReplyLaws.{lengths-differ, lengths-same}

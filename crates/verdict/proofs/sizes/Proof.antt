@@ -6,11 +6,11 @@ use native.Mathlib.Nat.{mul-le-mul}
 use borrow.Author.Needs.{needs}
 use lib.IntN.{ℤ}
 use Rattle.space.specs.Vectors.{entries, Sized}
-use Rattle.space.specs.Boxes.{Solid, boxOf}
+use Rattle.boxes.specs.Boxes.{Solid, boxOf}
 use Rattle.space.proofs.Machine.{fits-under}
 use Rattle.job.specs.declared.Job.{Job}
 use Rattle.job.specs.Limits.{Acceptable}
-use Rattle.verdict.proofs.Fits.{time-sized, row0-sized, row1-sized}
+use Rattle.mapping.proofs.Fits.{time-sized, row0-sized, row1-sized}
 use Rattle.verdict.proofs.sizes.Statement.{statement}
 use Rattle.verdict.proofs.sizes.Tie as tie
 

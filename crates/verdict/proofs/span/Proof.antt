@@ -3,8 +3,8 @@ use native.Mathlib.Omega.{arith}
 use borrow.Author.Needs.{needs}
 use lib.IntN.{_-ℤ_}
 use Rattle.space.proofs.Machine.{Is, held, arg, sub, fit, read, cast-need, fits-under}
-use Rattle.space.proofs.BoxLaws.{sides-sized}
-use Rattle.space.proofs.ExtremeLaws.{least-size}
+use Rattle.boxes.proofs.BoxLaws.{sides-sized}
+use Rattle.boxes.proofs.ExtremeLaws.{least-size}
 use Rattle.verdict.proofs.SizeLaws.{greatest-size, least-greatest, span-is}
 use Rattle.verdict.proofs.span.Statement.{statement}
 use Rattle.verdict.proofs.span.Tie as tie

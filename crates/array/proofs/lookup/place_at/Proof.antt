@@ -8,7 +8,7 @@ use native.Mathlib.Omega.{arith}
 use borrow.Author.Needs.{needs}
 use lib.Dec.{eqb}
 use Rattle.space.proofs.VectorLaws.{sized-up}
-use Rattle.verdict.proofs.Fits.{low-sized, high-sized}
+use Rattle.mapping.proofs.Fits.{low-sized, high-sized}
 use Rattle.loops.specs.Tables.{points}
 use Rattle.tick.specs.Ticks.{lastOf, works, pointAt}
 use Rattle.array.proofs.lookup.place_at.Statement.{statement}

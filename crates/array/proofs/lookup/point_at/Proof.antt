@@ -3,11 +3,11 @@ use mathlib.Core.Path.{_≡_, sym, ap, subst, _∙_}
 use mathlib.Core.Option.{some}
 use native.Mathlib.Omega.{arith}
 use borrow.Author.Needs.{needs}
-use Rattle.space.specs.Boxes.{foundOf}
+use Rattle.boxes.specs.Boxes.{foundOf}
 use Rattle.space.proofs.VectorLaws.{sized-up}
+use Rattle.mapping.proofs.Fits.{low-sized, high-sized}
 use Rattle.verdict.specs.Replies.{Says}
 use Rattle.verdict.specs.declared.Verdict.the-variants.{Accepted}
-use Rattle.verdict.proofs.Fits.{low-sized, high-sized}
 use Rattle.tick.specs.Ticks.{works, pointAt}
 use Rattle.array.proofs.ReplyLaws.{not-accepted, accepted-limits, accepted-frames}
 use Rattle.tick.proofs.PointLaws.{last-below}

@@ -5,11 +5,11 @@ use native.Mathlib.Omega.{arith}
 use borrow.Author.Needs.{needs}
 use Rattle.space.specs.Numbers.{Tells}
 use Rattle.space.specs.Vectors.{entries, Sized}
-use Rattle.space.specs.Boxes.{boxOf}
+use Rattle.boxes.specs.Boxes.{boxOf}
 use Rattle.space.proofs.Machine.{never}
 use Rattle.space.proofs.Telling.{tells-as, tells-and, tells-le, granted, denied}
 use Rattle.space.proofs.VectorLaws.{sized-up}
-use Rattle.space.proofs.BoxLaws.{in-solid, solid-in}
+use Rattle.boxes.proofs.BoxLaws.{in-solid, solid-in}
 use Rattle.job.specs.Limits.{boundLimit}
 use Rattle.job.proofs.limits.is_boxed.Statement.{statement}
 use Rattle.job.proofs.limits.is_boxed.Tie as tie

@@ -4,8 +4,8 @@ use Prim.Native.Nat.{_-_, _<_}
 use native.Mathlib.Omega.{arith}
 use denote.Ref.{now}
 use Rattle.space.specs.Vectors.{entries}
-use Rattle.space.specs.Boxes.{pointOf, PointAt}
-use Rattle.verdict.specs.Mapping.{box}
+use Rattle.boxes.specs.Boxes.{pointOf, PointAt}
+use Rattle.mapping.specs.Mapping.{box}
 use Rattle.loops.specs.Tables.{points as pointsOf}
 use Rattle.loops.specs.Steps.{LoopedTo}
 use Rattle.loops.proofs.LoopLaws.{walkable, some-point, stands-in, few-points, looped-start, looped-step, looped-end}

@@ -8,7 +8,7 @@ use denote.Ref.{now}
 use borrow.Author.Needs.{needs}
 use Rattle.loops.specs.Tables.{points}
 use Rattle.loops.specs.Loops.{previous}
-use Rattle.space.specs.Boxes.{foundOf}
+use Rattle.boxes.specs.Boxes.{foundOf}
 use Rattle.loops.proofs.LoopLaws.{few-streams, few-points, entry-in, previous-before, incoming-some, incoming-none}
 use Rattle.loops.proofs.looped.incoming_at.Statement.{statement}
 use Rattle.loops.proofs.looped.incoming_at.Tie as tie

@@ -10,7 +10,7 @@ use Rattle.space.proofs.VectorLaws.{sized-up}
 use Rattle.job.specs.Refusals.{First, check, done}
 use Rattle.job.specs.Limits.{limits, Acceptable}
 use Rattle.job.proofs.Refusing.{accepted, stop-first}
-use Rattle.verdict.proofs.Fits.{low-sized, high-sized}
+use Rattle.mapping.proofs.Fits.{low-sized, high-sized}
 use Rattle.loops.specs.Tables.{points}
 use Rattle.loops.proofs.LoopLaws.{few-streams, few-points, table-refused, tables-taken}
 use Rattle.loops.proofs.looped.loop_of.Statement.{statement}

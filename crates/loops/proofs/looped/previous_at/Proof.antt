@@ -3,10 +3,10 @@ use mathlib.Core.Path.{sym, ap, subst, _∙_}
 use borrow.Author.Needs.{needs}
 use Rattle.space.specs.Numbers.{difference}
 use Rattle.space.specs.Vectors.{entries, Sized}
-use Rattle.space.specs.Boxes.{backOf}
+use Rattle.boxes.specs.Boxes.{backOf}
 use Rattle.job.specs.declared.Stream.{Stream}
-use Rattle.verdict.specs.Mapping.{box}
-use Rattle.verdict.proofs.Fits.{along-sized}
+use Rattle.mapping.specs.Mapping.{box}
+use Rattle.mapping.proofs.Fits.{along-sized}
 use Rattle.loops.proofs.LoopLaws.{walkable, stands-in}
 use Rattle.loops.proofs.looped.previous_at.Statement.{statement}
 use Rattle.loops.proofs.looped.previous_at.Tie as tie

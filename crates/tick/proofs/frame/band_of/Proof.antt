@@ -4,10 +4,10 @@ use mathlib.Core.List.{List, [], _∷_}
 use borrow.Author.Needs.{needs}
 use lib.IntN.{ℤ, natAbs}
 use Rattle.space.specs.Vectors.{entries}
-use Rattle.space.specs.Boxes.{Box, side}
+use Rattle.boxes.specs.Boxes.{Box, side}
 use Rattle.space.proofs.VectorLaws.{unfour}
-use Rattle.verdict.proofs.Fits.{row0-sized, row1-sized}
-use Rattle.verdict.proofs.Meetings.{unit-sized}
+use Rattle.mapping.proofs.Fits.{row0-sized, row1-sized}
+use Rattle.mapping.proofs.Meetings.{unit-sized}
 use Rattle.verdict.proofs.SizeLaws.{delay-up}
 use Rattle.tick.proofs.FrameLaws.{held-limit, held-is, small-ends}
 use Rattle.tick.proofs.frame.band_of.Statement.{statement}

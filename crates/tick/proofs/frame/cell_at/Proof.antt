@@ -5,13 +5,13 @@ use native.Mathlib.Nat.{mul-le-mul, le-trans, le-of-eq, le-of-lt}
 use native.Mathlib.Omega.{arith}
 use Rattle.space.specs.Numbers.{difference, steps}
 use Rattle.space.specs.Vectors.{entries, dotOf, Sized}
-use Rattle.space.specs.Boxes.{pointOf, leastOf}
+use Rattle.boxes.specs.Boxes.{pointOf, leastOf}
 use Rattle.space.proofs.Machine.{fits-under}
 use Rattle.space.proofs.VectorLaws.{sized-up, unfour}
-use Rattle.space.proofs.BoxLaws.{steps-size}
-use Rattle.verdict.specs.Mapping.{box}
-use Rattle.verdict.specs.Courses.{placed}
-use Rattle.verdict.proofs.Fits.{row0-sized, row1-sized}
+use Rattle.boxes.proofs.BoxLaws.{steps-size}
+use Rattle.mapping.specs.Mapping.{box}
+use Rattle.mapping.specs.Courses.{placed}
+use Rattle.mapping.proofs.Fits.{row0-sized, row1-sized}
 use Rattle.tick.specs.Frames.{cellOf}
 use Rattle.tick.proofs.FrameLaws.{held-is, fits-limit, small-ends, point-sized, product-sized, across-small, cell-below, cell-is, cells-small}
 use Rattle.tick.proofs.frame.cell_at.Statement.{statement}

@@ -6,7 +6,7 @@ use native.Mathlib.Omega.{arith}
 use Rattle.space.specs.Vectors.{entries}
 use Rattle.space.proofs.Machine.{fits-under}
 use Rattle.space.proofs.VectorLaws.{sized-up}
-use Rattle.verdict.proofs.Fits.{solid, time-sized, row0-sized, row1-sized, low-sized, high-sized}
+use Rattle.mapping.proofs.Fits.{solid, time-sized, row0-sized, row1-sized, low-sized, high-sized}
 use Rattle.tick.proofs.FrameLaws.{held-is, small-ends, across-small, cells-are}
 use Rattle.tick.proofs.frame.frame_of.Statement.{statement}
 use Rattle.tick.proofs.frame.frame_of.Tie as tie

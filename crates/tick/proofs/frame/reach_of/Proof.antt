@@ -4,12 +4,12 @@ use native.Mathlib.Omega.{arith}
 use lib.IntN.{ℤ, pos, _+ℤ_}
 use Rattle.space.specs.Numbers.{Size, steps}
 use Rattle.space.specs.Vectors.{entries}
-use Rattle.space.specs.Boxes.{boxOf}
+use Rattle.boxes.specs.Boxes.{boxOf}
 use Rattle.space.proofs.Machine.{Is, held, arg, lit, add, fit, read, as-held}
 use Rattle.space.proofs.VectorLaws.{sized-up}
 use Rattle.space.proofs.Ints.{size-up}
-use Rattle.space.proofs.BoxLaws.{sides-sized}
-use Rattle.space.proofs.ExtremeLaws.{least-is, greatest-is, least-unique, greatest-unique}
+use Rattle.boxes.proofs.BoxLaws.{sides-sized}
+use Rattle.boxes.proofs.ExtremeLaws.{least-is, greatest-is, least-unique, greatest-unique}
 use Rattle.tick.proofs.FrameLaws.{ends-small}
 use Rattle.tick.proofs.frame.reach_of.Statement.{statement}
 use Rattle.tick.proofs.frame.reach_of.Tie as tie

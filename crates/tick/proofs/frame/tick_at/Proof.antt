@@ -3,10 +3,10 @@ use mathlib.Core.Path.{_≡_, refl, sym, ap, ap₂, subst, _∙_}
 use native.Mathlib.Omega.{arith}
 use Rattle.space.specs.Numbers.{limit, steps}
 use Rattle.space.specs.Vectors.{entries, dotOf, Sized}
-use Rattle.space.specs.Boxes.{pointOf}
+use Rattle.boxes.specs.Boxes.{pointOf}
 use Rattle.space.proofs.VectorLaws.{sized-up}
-use Rattle.verdict.specs.Mapping.{box, H}
-use Rattle.verdict.proofs.Fits.{time-sized}
+use Rattle.mapping.specs.Mapping.{box, H}
+use Rattle.mapping.proofs.Fits.{time-sized}
 use Rattle.tick.specs.Frames.{tickOf}
 use Rattle.tick.proofs.FrameLaws.{held-is, fits-limit, small-ends, point-sized, product-sized}
 use Rattle.tick.proofs.frame.tick_at.Statement.{statement}

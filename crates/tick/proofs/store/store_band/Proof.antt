@@ -2,7 +2,7 @@
 use mathlib.Core.Path.{sym, ap, _∙_}
 use denote.Ref.{now}
 use borrow.Author.Needs.{needs}
-use Rattle.space.specs.Boxes.{countOf}
+use Rattle.boxes.specs.Boxes.{countOf}
 use Rattle.tick.proofs.StoreLaws.{still-lent, shift-then-put}
 use Rattle.tick.proofs.store.store_band.Statement.{statement}
 use Rattle.tick.proofs.store.store_band.Tie as tie

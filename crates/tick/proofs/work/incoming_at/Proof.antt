@@ -5,7 +5,7 @@ use native.Mathlib.Omega.{arith}
 use lib.ListN.{length, getD}
 use denote.Ref.{now}
 use borrow.Author.Needs.{needs}
-use Rattle.space.specs.Boxes.{countOf, foundOf}
+use Rattle.boxes.specs.Boxes.{countOf, foundOf}
 use Rattle.loops.specs.Tables.{points}
 use Rattle.loops.proofs.LoopLaws.{entry-in}
 use Rattle.tick.proofs.LendingLaws.{band-fits, some-delay, lent, arrives}

@@ -5,13 +5,13 @@ use borrow.Author.Needs.{needs}
 use Rattle.space.specs.Numbers.{coordinate}
 use Rattle.space.specs.Vectors.{entries}
 use Rattle.space.proofs.VectorLaws.{sized-up}
-use Rattle.space.proofs.BoxLaws.{in-sized, sides-sized}
-use Rattle.space.proofs.PairLaws.{apart-sized}
-use Rattle.verdict.specs.Mapping.{box}
+use Rattle.boxes.proofs.BoxLaws.{in-sized, sides-sized}
+use Rattle.boxes.proofs.PairLaws.{apart-sized}
+use Rattle.mapping.specs.Mapping.{box}
+use Rattle.mapping.specs.Searches.{Still, Finds-gap}
+use Rattle.mapping.proofs.Fits.{low-sized, high-sized}
 use Rattle.verdict.specs.Rules.{SameCell}
 use Rattle.verdict.specs.Replies.{FirstPair}
-use Rattle.verdict.specs.Searches.{Still, Finds-gap}
-use Rattle.verdict.proofs.Fits.{low-sized, high-sized}
 use Rattle.verdict.proofs.FirstPairs.{cell-by-gap, no-pair, first-pair}
 use Rattle.verdict.proofs.rules.crowded.Statement.{statement}
 use Rattle.verdict.proofs.rules.crowded.Tie as tie

@@ -16,11 +16,11 @@ use Rattle.space.proofs.DivisorLaws.{gcd-unique}
 use Rattle.space.proofs.Telling.{tells-as, tells-eq}
 use Rattle.job.specs.declared.Job.{Job}
 use Rattle.job.specs.declared.Stream.{Stream}
-use Rattle.verdict.specs.Mapping.{along, H, g}
+use Rattle.mapping.specs.Mapping.{along, H, g}
+use Rattle.mapping.specs.Courses.{placed}
+use Rattle.mapping.proofs.Courses.{g-is, none-stationary, stationary-none}
+use Rattle.mapping.proofs.Fits.{along-sized}
 use Rattle.verdict.specs.Rules.{Even}
-use Rattle.verdict.specs.Courses.{placed}
-use Rattle.verdict.proofs.Courses.{g-is, none-stationary, stationary-none}
-use Rattle.verdict.proofs.Fits.{along-sized}
 use Rattle.verdict.proofs.rules.is_even.Statement.{statement}
 use Rattle.verdict.proofs.rules.is_even.Tie as tie
 

@@ -8,14 +8,15 @@ use Rattle.space.specs.Numbers.{coordinate}
 use Rattle.space.specs.Vectors.{entries, plusOf}
 use Rattle.space.proofs.Machine.{held, in-range, back}
 use Rattle.space.proofs.VectorLaws.{sized-up, minus-plus}
-use Rattle.space.proofs.BoxLaws.{in-sized, sides-sized}
-use Rattle.space.proofs.PairLaws.{apart-sized}
-use Rattle.verdict.specs.Mapping.{box, Stationary}
-use Rattle.verdict.specs.Rules.{Meeting, senders}
+use Rattle.boxes.proofs.BoxLaws.{in-sized, sides-sized}
+use Rattle.boxes.proofs.PairLaws.{apart-sized}
+use Rattle.mapping.specs.Mapping.{box, Stationary}
+use Rattle.mapping.specs.Collisions.{senders}
+use Rattle.mapping.specs.Searches.{Meets, MetAt, Finds-gap}
+use Rattle.mapping.proofs.Courses.{none-stationary, stationary-none}
+use Rattle.mapping.proofs.Fits.{low-sized, high-sized}
+use Rattle.verdict.specs.Rules.{Meeting}
 use Rattle.verdict.specs.Replies.{FirstPair}
-use Rattle.verdict.specs.Searches.{Meets, MetAt, Finds-gap}
-use Rattle.verdict.proofs.Courses.{none-stationary, stationary-none}
-use Rattle.verdict.proofs.Fits.{low-sized, high-sized}
 use Rattle.verdict.proofs.FirstPairs.{link-by-gap, meets-meeting, no-pair, first-pair}
 use Rattle.verdict.proofs.rules.jam_of.Statement.{statement}
 use Rattle.verdict.proofs.rules.jam_of.Tie as tie

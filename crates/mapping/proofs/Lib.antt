@@ -1,0 +1,4 @@
+pub mod Courses
+pub mod Fits
+pub mod Gaps
+pub mod Meetings

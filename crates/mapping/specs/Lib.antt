@@ -1,0 +1,4 @@
+pub mod Mapping
+pub mod Collisions
+pub mod Courses
+pub mod Searches
