@@ -48,6 +48,11 @@ module _ (j : Job) (f : Frame) (input places₀ values₀ : List ℕ) where
   pub run-end : {ticks t : ℕ} {places values : List ℕ} → Running ticks places values t → ticks ≤ t → Ran j input places₀ values₀ ticks places values
   run-end {ticks} {t} d h = let e : t ≡ ticks = omega (arith, d .low) in rw e at (d .ran)
 
+-- a run keeps the length of the value table
+pub ran-size : {j : Job} {input places values : List ℕ} {n : ℕ} {p v : List ℕ} → Ran j input places values n p v → length v ≡ length values
+ran-size ready = refl
+ran-size (ticked r h) = h .length-values ∙ ran-size r
+
 -- places of the same length suffice as well
 pub roomy-as : {j : Job} {before after : List ℕ} → Roomy j before → length after ≡ length before → Roomy j after
 roomy-as r e = record { enough = omega (arith, r .enough, e) }

@@ -2,24 +2,19 @@
 use mathlib.Core.Path.{_≡_, refl, sym, ap, ap₂, subst, _∙_}
 use mathlib.Core.Logic.{_⊎_, inl, inr}
 use mathlib.Core.Bool.{cond}
-use mathlib.Core.List.{List, [], _∷_}
+use mathlib.Core.List.{List}
 use mathlib.Core.Option.{Option, none, some}
 use Prim.Native.Nat.{ℕ, _<_}
 use native.Mathlib.Decide.{ℕ-discrete}
 use native.Mathlib.Omega.{arith}
 use lib.Dec.{eqb}
 use lib.ListN.{length}
-use lib.IntN.{ℤ}
-use Rattle.space.specs.declared.Vector.{Vector}
-use Rattle.space.specs.Vectors.{entries}
 use Rattle.boxes.specs.Boxes.{pointOf}
-use Rattle.space.proofs.VectorLaws.{unfour}
+use Rattle.space.proofs.VectorLaws.{vector-of}
 use Rattle.job.specs.declared.Job.{Job}
-use Rattle.job.specs.Refusals.{Checks, done, check, First, andThen}
-use Rattle.job.proofs.Refusing.{first-unique}
-use Rattle.reader.specs.Reading.{Reads}
-use Rattle.reader.specs.declared.Reply.the-variants as Read
-use Rattle.reader.proofs.Theorems.{reads-unique}
+use Rattle.job.specs.Refusals.{Checks, done, check, First}
+use Rattle.job.proofs.Refusing.{first-unique, then-passed}
+use Rattle.reader.proofs.Theorems.{of-bytes-unique}
 use Rattle.mapping.specs.Mapping.{box}
 use Rattle.verdict.specs.Replies.{Says, numberOf as numberIn}
 use Rattle.verdict.specs.declared.Size.{Size}
@@ -32,11 +27,12 @@ use Rattle.array.specs.declared.lookup.Worked.{Worked}
 use Rattle.array.specs.declared.lookup.Worked.the-variants as Look
 use Rattle.tick.specs.Frames.{ticks, room}
 use Rattle.tick.specs.Ticks.{Ticked}
-use Rattle.array.specs.Runs.{Ran, cleared}
-use Rattle.array.specs.Runs.{runChecks, tickChecks, numberOf, Stands, Replies, Runs, Steps, OfBytes}
+use Rattle.array.specs.Runs.{Ran, cleared, Answers}
+use Rattle.array.specs.Runs.{runChecks, tickChecks, numberOf, Stands, Replies, Runs, Steps, RepliesOf}
 use Rattle.array.specs.Lookups.{Looks, LooksOf}
 use Rattle.array.proofs.ReplyLaws.{accepted-runs, passed}
 use Rattle.array.proofs.UniqueTicks.{ticked-unique, ran-unique}
+use Rattle.array.specs.declared.Answer.{Answer}
 
 -- ---- replies
 -- the reply with a number, of an array with the sizes z
@@ -102,13 +98,11 @@ module _ (j : Job) (checks : Size → Checks) {Done Done′ Same Same′ Goal : 
   pub replies-unique : (r r′ : Reply) → Replies j checks Done Same r → Replies j checks Done′ Same′ r′ → (r ≡ r′) × Goal
   replies-unique r r′ a b = sorted-unique r r′ (sorted j checks Done Same r a) (sorted j checks Done′ Same′ r′ b)
 
--- ---- runs and single ticks
--- checks that pass with others behind them pass
-then-passed : (cs ds : Checks) → First (andThen cs ds) 0 → First cs 0
-then-passed done ds p = refl
-then-passed (check n P rest) ds (inl p) = inl (p .0, then-passed rest ds (p .1))
-then-passed (check n P rest) ds (inr p) = inr p
+-- one answer in numbers
+pub answers-unique : (r : Reply) (a b : Answer) → Answers r a → Answers r b → a ≡ b
+answers-unique r a b p q = ap₂ (λ (n c : ℕ). record { number = n; count = c }) (p .number ∙ sym (q .number)) (p .count ∙ sym (q .count))
 
+-- ---- runs and single ticks
 -- both unaltered
 neither : {v v′ values p p′ places : List ℕ} → (v ≡ values) × (p ≡ places) → (v′ ≡ values) × (p′ ≡ places) → (v ≡ v′) × (p ≡ p′)
 neither a b = (a .0 ∙ sym (b .0), a .1 ∙ sym (b .1))
@@ -135,13 +129,6 @@ module _ (j : Job) (input values places v p v′ p′ : List ℕ) (r r′ : Repl
           (e .1, e .0)
 
 -- ---- look-ups
--- a struct of four is its entries
-vector-of : (u v : Vector) → entries u ≡ entries v → u ≡ v
-vector-of u v e = made (u .x0) (u .x1) (u .x2) (u .x3) (v .x0) (v .x1) (v .x2) (v .x3) e
-  where
-    made : (a b c d a′ b′ c′ d′ : ℤ) → _≡_ {A = List ℤ} (a ∷ b ∷ c ∷ d ∷ []) (a′ ∷ b′ ∷ c′ ∷ d′ ∷ []) → _≡_ {A = Vector} (record { x0 = a; x1 = b; x2 = c; x3 = d }) (record { x0 = a′; x1 = b′; x2 = c′; x3 = d′ })
-    made a b c d a′ b′ c′ d′ e = let w = unfour e in rw (w .0, w .1, w .2, w .3)
-
 -- something is not nothing
 clash : {k : ℕ} {o : Option ℕ} → o ≡ some k → o ≡ none → ⊥
 clash p q = let z : _≡_ {A = ℕ} 0 1 = cc in omega arith
@@ -152,7 +139,7 @@ same-some p q = cc
 
 -- at most one reply of a look-up is right
 pub looks-unique : (j : Job) (t x : ℕ) (r r′ : Worked) → Looks j t x r → Looks j t x r′ → r ≡ r′
-looks-unique j t x (Look.At u) (Look.At v) a b = ap Look.At (vector-of u v (a .2 .2 ∙ ap (pointOf (box j)) (same-some (a .2 .1) (b .2 .1)) ∙ sym (b .2 .2)))
+looks-unique j t x (Look.At u) (Look.At v) a b = ap Look.At (vector-of (a .2 .2 ∙ ap (pointOf (box j)) (same-some (a .2 .1) (b .2 .1)) ∙ sym (b .2 .2)))
 looks-unique j t x (Look.At u) Look.Nowhere a b = absurd (clash (a .2 .1) (b .2))
 looks-unique j t x (Look.At u) (Look.Refused v) a b = absurd (no-refusal j (a .0) v (a .1) (b .0) (b .1))
 looks-unique j t x Look.Nowhere (Look.At u) a b = absurd (clash (b .2 .1) (a .2))
@@ -163,35 +150,9 @@ looks-unique j t x (Look.Refused u) Look.Nowhere a b = absurd (no-refusal j (b .
 looks-unique j t x (Look.Refused u) (Look.Refused v) a b = ap Look.Refused (says-unique j u v (a .0) (b .0))
 
 -- ---- bytes
--- what the bytes are, with what is said of a refused number or of a job, is one
-module _ (s : List ℕ) {Goal : Type 0} {A A′ : ℕ → Type 0} {Is Is′ : Job → Type 0} (refused : (n : ℕ) → A n → A′ n → Goal) (read : (j : Job) → Is j → Is′ j → Goal) where
-  -- a refused number twice, or a job twice
-  bytes-unique : ((n : ℕ) × Reads s (Read.Refused n) × A n) ⊎ ((j : Job) × Reads s (Read.Job j) × Is j) → ((n : ℕ) × Reads s (Read.Refused n) × A′ n) ⊎ ((j : Job) × Reads s (Read.Job j) × Is′ j) → Goal
-  bytes-unique (inl p) (inl q) =
-      let e = reads-unique s (Read.Refused (p .0)) (Read.Refused (q .0)) (p .1) (q .1) in
-      let n : q .0 ≡ p .0 = cc in
-      refused (p .0) (p .2) (subst A′ n (q .2))
-  bytes-unique (inl p) (inr q) =
-      let e = reads-unique s (Read.Refused (p .0)) (Read.Job (q .0)) (p .1) (q .1) in
-      let z : _≡_ {A = ℕ} 0 1 = cc in
-      absurd (omega arith)
-  bytes-unique (inr p) (inl q) =
-      let e = reads-unique s (Read.Job (p .0)) (Read.Refused (q .0)) (p .1) (q .1) in
-      let z : _≡_ {A = ℕ} 0 1 = cc in
-      absurd (omega arith)
-  bytes-unique (inr p) (inr q) =
-      let e = reads-unique s (Read.Job (p .0)) (Read.Job (q .0)) (p .1) (q .1) in
-      let same : q .0 ≡ p .0 = cc in
-      read (p .0) (p .2) (subst Is′ same (q .2))
-
 -- at most one reply of a look-up on bytes is right
 pub looks-of-unique : (s : List ℕ) (t x : ℕ) (r r′ : Worked) → LooksOf s t x r → LooksOf s t x r′ → r ≡ r′
-looks-of-unique s t x r r′ a b = bytes-unique s (λ n e f. e ∙ sym f) (λ j. looks-unique j t x r r′) a b
-
--- a refused number with nothing altered, as one thing
-paired : {s : List ℕ} {Is : Job → Type 0} {Same : Type 0} {r : Reply} → OfBytes s Is Same r → ((n : ℕ) × Reads s (Read.Refused n) × ((r ≡ Refused (Limit n)) × Same)) ⊎ ((j : Job) × Reads s (Read.Job j) × Is j)
-paired (inl p) = inl (p .0, p .1, (p .2, p .3))
-paired (inr q) = inr q
+looks-of-unique s t x r r′ a b = of-bytes-unique s (λ n e f. e ∙ sym f) (λ j. looks-unique j t x r r′) a b
 
 module _ (s input values places v p v′ p′ : List ℕ) (r r′ : Reply) where
   -- of a refused number
@@ -199,9 +160,9 @@ module _ (s input values places v p v′ p′ : List ℕ) (r r′ : Reply) where
   unread n a b = let e = neither (a .1) (b .1) in (a .0 ∙ sym (b .0), e .0, e .1)
 
   -- of a run on bytes
-  pub runs-of-unique : OfBytes s (λ (j : Job). Runs j input values places v p r) ((v ≡ values) × (p ≡ places)) r → OfBytes s (λ (j : Job). Runs j input values places v′ p′ r′) ((v′ ≡ values) × (p′ ≡ places)) r′ → (r ≡ r′) × (v ≡ v′) × (p ≡ p′)
-  runs-of-unique a b = bytes-unique s unread (λ j. runs-unique j input values places v p v′ p′ r r′) (paired a) (paired b)
+  pub runs-of-unique : RepliesOf s (λ (j : Job). Runs j input values places v p r) ((v ≡ values) × (p ≡ places)) r → RepliesOf s (λ (j : Job). Runs j input values places v′ p′ r′) ((v′ ≡ values) × (p′ ≡ places)) r′ → (r ≡ r′) × (v ≡ v′) × (p ≡ p′)
+  runs-of-unique a b = of-bytes-unique s unread (λ j. runs-unique j input values places v p v′ p′ r r′) a b
 
   -- of a single tick on bytes
-  pub steps-of-unique : (t : ℕ) → OfBytes s (λ (j : Job). Steps t j input values places v p r) ((v ≡ values) × (p ≡ places)) r → OfBytes s (λ (j : Job). Steps t j input values places v′ p′ r′) ((v′ ≡ values) × (p′ ≡ places)) r′ → (r ≡ r′) × (v ≡ v′) × (p ≡ p′)
-  steps-of-unique t a b = bytes-unique s unread (λ j. steps-unique j input values places v p v′ p′ r r′ t) (paired a) (paired b)
+  pub steps-of-unique : (t : ℕ) → RepliesOf s (λ (j : Job). Steps t j input values places v p r) ((v ≡ values) × (p ≡ places)) r → RepliesOf s (λ (j : Job). Steps t j input values places v′ p′ r′) ((v′ ≡ values) × (p′ ≡ places)) r′ → (r ≡ r′) × (v ≡ v′) × (p ≡ p′)
+  steps-of-unique t a b = of-bytes-unique s unread (λ j. steps-unique j input values places v p v′ p′ r r′ t) a b

@@ -8,9 +8,7 @@ use native.Mathlib.Decide.{ℕ-discrete, decLe}
 use native.Mathlib.Omega.{arith}
 use lib.ListN.{length, getD, drop}
 use lib.Seq.{ext-getD, getD-drop}
-use Rattle.boxes.proofs.BoxLaws.{solid-count}
 use Rattle.job.specs.declared.Job.{Job}
-use Rattle.mapping.specs.Mapping.{box}
 use Rattle.loops.specs.Tables.{points, entryFor}
 use Rattle.tick.specs.Frames.{cells, tickOf, w, from, room, held}
 use Rattle.tick.specs.Ticks.{Ticked}
@@ -19,18 +17,10 @@ use Rattle.array.specs.Runs.Ran.{ready, ticked}
 use Rattle.tick.specs.Steps.{Runnable}
 use Rattle.tick.proofs.RoomLaws.{from-next, delay-some}
 use Rattle.tick.proofs.LendingLaws.{from-first}
+use Rattle.loops.proofs.LoopLaws.{tables-same}
+use Rattle.array.proofs.RunLaws.{ran-size}
 
 -- ---- tables
--- value tables with the same entries are the same
-tables-same : (j : Job) → Runnable j → (a b : List ℕ) → length a ≡ j .m * points j → length b ≡ length a → ((s k : ℕ) → s < j .m → k < points j → entryFor j a s k ≡ entryFor j b s k) → a ≡ b
-tables-same j R a b size e same = ext-getD 0 a b (sym e) at
-  where
-    at : (i : ℕ) → i < length a → getD a i 0 ≡ getD b i 0
-    at i h =
-        let n = solid-count (box j) (R .acceptable .boxed .solid) in
-        let l : i < j .m * points j = omega arith in
-        rw div-add-mod' at (same (i / points j) (i % points j) (div-lt-iff-lt-mul n .1 l) (mod-lt i n))
-
 -- places that hold the same for every stream, cell and turn
 module _ (j : Job) (R : Runnable j) (a b : List ℕ) (same : (s x r : ℕ) → s < j .m → x < cells j → r < w j s → held j a s x r ≡ held j b s x r) where
   -- are the same in the band of a stream
@@ -69,7 +59,7 @@ module _ (j : Job) (R : Runnable j) (input : List ℕ) where
   pub ticked-unique : (t : ℕ) (places values p v p′ v′ : List ℕ) → length values ≡ j .m * points j → Ticked j input t places values p v → Ticked j input t places values p′ v′ → (p ≡ p′) × (v ≡ v′)
   ticked-unique t places values p v p′ v′ size a b = (
     places-same j R p p′ (λ s x r ls lx lr. turn s x r ls lx lr (ℕ-discrete r (t % w j s))) (a .length-places ∙ sym (b .length-places)) (a .beyond ∙ sym (b .beyond)),
-    tables-same j R v v′ (a .length-values ∙ size) (b .length-values ∙ sym (a .length-values)) (λ s k ls lk. entry s k ls lk (ℕ-discrete (tickOf j k) t)),
+    tables-same j (R .acceptable) v v′ (a .length-values ∙ size) (b .length-values ∙ size) (λ s k ls lk. entry s k ls lk (ℕ-discrete (tickOf j k) t)),
   )
     where
       turn : (s x r : ℕ) → s < j .m → x < cells j → r < w j s → Dec (r ≡ t % w j s) → held j p s x r ≡ held j p′ s x r
@@ -79,11 +69,6 @@ module _ (j : Job) (R : Runnable j) (input : List ℕ) where
       entry : (s k : ℕ) → s < j .m → k < points j → Dec (tickOf j k ≡ t) → entryFor j v s k ≡ entryFor j v′ s k
       entry s k ls lk (yes e) = a .worked s k ls lk e ∙ sym (b .worked s k ls lk e)
       entry s k ls lk (no ne) = a .spared s k ls lk ne ∙ sym (b .spared s k ls lk ne)
-
-  -- a run keeps the length of the value table
-  ran-size : {places values : List ℕ} {n : ℕ} {p v : List ℕ} → Ran j input places values n p v → length v ≡ length values
-  ran-size ready = refl
-  ran-size (ticked r h) = h .length-values ∙ ran-size r
 
   -- ticks from the same places and values leave the same
   pub ran-unique : (places values : List ℕ) (n : ℕ) (p v p′ v′ : List ℕ) → length values ≡ j .m * points j → Ran j input places values n p v → Ran j input places values n p′ v′ → (p ≡ p′) × (v ≡ v′)

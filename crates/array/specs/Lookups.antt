@@ -1,14 +1,12 @@
 -- The look-up of the point worked in a tick at a cell: the same that the tick works.
 use mathlib.Core.Path.{_≡_}
-use mathlib.Core.Logic.{_⊎_}
 use mathlib.Core.List.{List}
 use mathlib.Core.Option.{none, some}
 use Prim.Native.Nat.{ℕ}
 use Rattle.space.specs.Vectors.{entries}
 use Rattle.boxes.specs.Boxes.{pointOf}
 use Rattle.job.specs.declared.Job.{Job}
-use Rattle.reader.specs.Reading.{Reads}
-use Rattle.reader.specs.declared.Reply.the-variants as Read
+use Rattle.reader.specs.Reading.{OfBytes}
 use Rattle.mapping.specs.Mapping.{box}
 use Rattle.verdict.specs.Replies.{Says, numberOf}
 use Rattle.verdict.specs.declared.Verdict.the-variants.{Accepted, Limit}
@@ -25,4 +23,4 @@ Looks j t x (Refused v) = Says j v × (numberOf v ≡ 0 → ⊥)
 
 -- the same of the job that the bytes are
 abbrev pub LooksOf : List ℕ → ℕ → ℕ → Worked → Type 0
-LooksOf s t x r = ((number : ℕ) × Reads s (Read.Refused number) × (r ≡ Refused (Limit number))) ⊎ ((j : Job) × Reads s (Read.Job j) × Looks j t x r)
+LooksOf s t x r = OfBytes s (λ (number : ℕ). r ≡ Refused (Limit number)) (λ (j : Job). Looks j t x r)

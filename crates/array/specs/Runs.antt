@@ -1,17 +1,16 @@
 -- What a run and a single tick answer: 'a run adds 13 to 15, a single tick 16 as well'; 'nothing lent is altered' by a refusal.
 use mathlib.Core.Path.{_≡_}
-use mathlib.Core.Logic.{_⊎_}
 use mathlib.Core.List.{List, _++_}
-use Prim.Native.Nat.{ℕ, zero, suc, _*_, _<_, _≤_}
+use Prim.Native.Nat.{ℕ, zero, suc, _<_, _≤_}
 use lib.ListN.{length, drop, replicate}
+use Rattle.space.specs.Numbers.{roomLimit}
 use Rattle.job.specs.declared.Job.{Job}
 use Rattle.job.specs.Refusals.{Checks, done, check, First, andThen}
-use Rattle.reader.specs.Reading.{Reads}
-use Rattle.reader.specs.declared.Reply.the-variants as Read
+use Rattle.reader.specs.Reading.{OfBytes}
 use Rattle.verdict.specs.Replies.{Says, numberOf as numberIn}
 use Rattle.verdict.specs.declared.Verdict.the-variants.{Accepted, Limit}
 use Rattle.verdict.specs.declared.Size.{Size}
-use Rattle.loops.specs.Tables.{points}
+use Rattle.loops.specs.Tables.{Long}
 use Rattle.tick.specs.Frames.{ticks, room}
 use Rattle.tick.specs.Ticks.{Ticked}
 use Rattle.array.specs.declared.Reply.{Reply}
@@ -27,10 +26,10 @@ pub data Ran (j : Job) (input places values : List ℕ) : ℕ → List ℕ → L
 abbrev pub cleared : ℕ → List ℕ → List ℕ
 cleared n places = replicate n 0 ++ drop n places
 
--- 13 'input or value table not m × points long', 14 'R over 8,192', 15 'fewer than R places lent', of tables and places so long, for an accepted array
+-- 13, 14 'R over 8,192', 15 'fewer than R places lent', of tables and places so long, for an accepted array
 abbrev pub runChecks : Job → ℕ → ℕ → ℕ → Size → Checks
 runChecks j input values places z =
-    check 13 ((input ≡ j .m * points j) × (values ≡ j .m * points j)) (check 14 (z .room ≤ 8192) (check 15 (z .room ≤ places) done))
+    check 13 (Long j input values) (check 14 (z .room ≤ roomLimit) (check 15 (z .room ≤ places) done))
 
 -- and 16 'single tick number ≥ tick count'
 abbrev pub tickChecks : ℕ → Job → ℕ → ℕ → ℕ → Size → Checks
@@ -82,7 +81,6 @@ abbrev pub Steps : ℕ → Job → List ℕ → List ℕ → List ℕ → List �
 Steps t j input values places values′ places′ r =
     Replies j (tickChecks t j (length input) (length values) (length places)) (Ticked j input t places values places′ values′) ((values′ ≡ values) × (places′ ≡ places)) r
 
--- on job bytes: the reader's refusal, or what is said of the job that they are
-abbrev pub OfBytes : List ℕ → (Job → Type 0) → Type 0 → Reply → Type 0
-OfBytes s Is Same r =
-    ((number : ℕ) × Reads s (Read.Refused number) × (r ≡ Refused (Limit number)) × Same) ⊎ ((j : Job) × Reads s (Read.Job j) × Is j)
+-- on job bytes: the reader's refusal with nothing altered, or what is said of the job that they are
+abbrev pub RepliesOf : List ℕ → (Job → Type 0) → Type 0 → Reply → Type 0
+RepliesOf s Is Same r = OfBytes s (λ (number : ℕ). (r ≡ Refused (Limit number)) × Same) Is

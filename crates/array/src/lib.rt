@@ -12,7 +12,7 @@ ghost use Rattle.job.specs.Limits.{Acceptable};
 ghost use Rattle.job.specs.declared.Job.{Job};
 ghost use Rattle.loops.specs.Tables.{points as pointsOf};
 ghost use Rattle.array.specs.Runs.{Ran, cleared};
-ghost use Rattle.array.specs.Runs.{Answers, Runs, Steps, OfBytes, runChecks};
+ghost use Rattle.array.specs.Runs.{Answers, Runs, Steps, RepliesOf, runChecks};
 ghost use Rattle.tick.specs.Steps.{Tabled, Roomy, Timed};
 ghost use Rattle.array.specs.Lacking.{Lacks};
 
@@ -127,7 +127,7 @@ pub fn tick_of(j: Job, t: u64, input: &[u32], values: &mut [u32], places: &mut [
 
 // The run of the job that the bytes are.
 pub fn run_of_bytes(s: &[u8], input: &[u32], values: &mut [u32], places: &mut [u32]) -> Reply
-    ensures { λ r. ⌜ OfBytes (now (s .entry)) (λ (j : Job). Runs j (now (input .entry)) (now (values .entry)) (now (places .entry)) (now (values .exit)) (now (places .exit)) r) ((now (values .exit) ≡ now (values .entry)) × (now (places .exit) ≡ now (places .entry))) r ⌝ }
+    ensures { λ r. ⌜ RepliesOf (now (s .entry)) (λ (j : Job). Runs j (now (input .entry)) (now (values .entry)) (now (places .entry)) (now (values .exit)) (now (places .exit)) r) ((now (values .exit) ≡ now (values .entry)) × (now (places .exit) ≡ now (places .entry))) r ⌝ }
 {
     let read = reader::read(s);
     match read {
@@ -144,7 +144,7 @@ pub fn tick_of_bytes(
     values: &mut [u32],
     places: &mut [u32],
 ) -> Reply
-    ensures { λ r. ⌜ OfBytes (now (s .entry)) (λ (j : Job). Steps t j (now (input .entry)) (now (values .entry)) (now (places .entry)) (now (values .exit)) (now (places .exit)) r) ((now (values .exit) ≡ now (values .entry)) × (now (places .exit) ≡ now (places .entry))) r ⌝ }
+    ensures { λ r. ⌜ RepliesOf (now (s .entry)) (λ (j : Job). Steps t j (now (input .entry)) (now (values .entry)) (now (places .entry)) (now (values .exit)) (now (places .exit)) r) ((now (values .exit) ≡ now (values .entry)) × (now (places .exit) ≡ now (places .entry))) r ⌝ }
 {
     let read = reader::read(s);
     match read {

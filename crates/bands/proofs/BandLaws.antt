@@ -8,7 +8,7 @@ use Prim.Native.Nat.{ℕ, _+_, _*_, _/_, _%_, _<_, _≤_}
 use native.Mathlib.Nat.{div-one}
 use native.Mathlib.Decide.{ℕ-discrete}
 use native.Mathlib.Omega.{arith}
-use lib.Arith.{digits-lt, digits-div, digits-mod}
+use lib.Arith.{digits-lt}
 use lib.ListN.{length, set, length-set}
 use lib.Seq.{getD-set-same, getD-set-other}
 use lib.IntN.{ℤ, pos, natAbs, _+ℤ_, _-ℤ_}
@@ -16,14 +16,15 @@ use lib.Signed.{_≤ℤ_, _<ℤ_}
 use Rattle.space.specs.Numbers.{steps}
 use Rattle.space.specs.Vectors.{minusOf}
 use Rattle.space.specs.Order.{Before, AtMost}
-use Rattle.boxes.specs.Boxes.{Box, Side, side, In, across, countOf, placeOf, pointOf, backOf}
+use Rattle.boxes.specs.Boxes.{Box, Side, side, In, across, countOf, placeOf, pointOf, backOf, given}
 use Rattle.space.proofs.Parts.{int, sum, difference, magnitude}
 use Rattle.space.proofs.Ints.{trichotomy}
 use Rattle.boxes.proofs.BoxLaws.{point-in, place-point, before-place}
 use Rattle.boxes.proofs.BackLaws.{back-some, back-below}
 use Rattle.bands.specs.declared.Band.{Band}
-use Rattle.bands.specs.Bands.{rectangleOf, hopOf, at, given, arrivalIn, Lent, Shifted}
+use Rattle.bands.specs.Bands.{rectangleOf, hopOf, at, arrivalIn, Lent, Shifted}
 use Rattle.bands.specs.Turns.{turnOf}
+use Rattle.space.proofs.Rows.{spots}
 
 -- ---- two sides
 -- how many columns there are
@@ -108,11 +109,6 @@ late b true o x y lx e = omega (arith, o .0 refl x y lx e)
 late b false o x y lx e = o .1 refl x y lx e
 
 -- ---- places
--- two places at one number are one
-pub spots : (n x y r q : ℕ) → r < n → q < n → y * n + q ≡ x * n + r → (y ≡ x) × (q ≡ r)
-spots n x y r q lr lq e =
-    (sym (digits-div y lq) ∙ ap (λ (z : ℕ). z / n) e ∙ digits-div x lr, sym (digits-mod y lq) ∙ ap (λ (z : ℕ). z % n) e ∙ digits-mod x lr)
-
 -- place slot of a cell is among the places, and they are few
 pub its-place : {b : Band} {slot : ℕ} {places : List ℕ} → Lent b slot places → (x : ℕ) → x < countOf (rectangleOf b) → (x * b .w + slot < length places) × (x * b .w + slot < 8192)
 its-place {b} {slot} {places} l x lx =

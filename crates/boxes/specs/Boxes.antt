@@ -78,6 +78,11 @@ inside [] (x ∷ xs) = false
 inside (s ∷ ss) [] = false
 inside (s ∷ ss) (x ∷ xs) = leZ (s .low) x && (leZ x (s .high) && inside ss xs)
 
+-- what f makes of the thing that is there, or else b
+abbrev pub given : {A B : Type 0} → Option A → B → (A → B) → B
+given none b f = b
+given (some a) b f = f a
+
 -- the place of x - d, where it is in the box, for the point x at place k
 unfoldable pub backOf : Box → List ℤ → ℕ → Option ℕ
 backOf B d k = cond (inside B (minusOf (pointOf B k) d)) (some (placeOf B (minusOf (pointOf B k) d))) none

@@ -2,14 +2,10 @@
 use mathlib.Core.Path.{_≡_, sym, ap, _∙_}
 use mathlib.Core.List.{List, []}
 use mathlib.Core.Option.{some}
-use Prim.Native.Nat.{ℕ, _*_, _/_, _%_, _<_}
-use native.Mathlib.Nat.{div-add-mod', mod-lt, div-lt-iff-lt-mul}
+use Prim.Native.Nat.{ℕ, _*_, _<_}
 use native.Mathlib.Omega.{arith}
-use lib.ListN.{length, getD}
-use lib.Seq.{ext-getD}
-use Rattle.boxes.proofs.BoxLaws.{solid-count}
+use lib.ListN.{length}
 use Rattle.job.specs.declared.Job.{Job}
-use Rattle.mapping.specs.Mapping.{box}
 use Rattle.verdict.specs.Replies.{Says}
 use Rattle.verdict.specs.declared.Size.{Size}
 use Rattle.verdict.specs.declared.Verdict.the-variants.{Accepted}
@@ -26,17 +22,9 @@ use Rattle.demand.proofs.Rules.{rules-kept}
 use Rattle.demand.proofs.Scans.{point-only}
 use Rattle.demand.specs.Instances.{machine, nest}
 use Rattle.demand.proofs.Instance.{job-mapped}
-use Rattle.demand.proofs.Runs.{incoming-is, Steps, steps-of, run-of, taken-is, loop-solves, ran-size, ran-through}
-
--- two tables of one size with the same entries are the same
-same-table : (j : Job) → Obeys j → (v u : List ℕ) → length v ≡ j .m * points j → length u ≡ j .m * points j → ((s k : ℕ) → s < j .m → k < points j → entryFor j v s k ≡ entryFor j u s k) → v ≡ u
-same-table j rules v u ev eu same = ext-getD 0 v u (ev ∙ sym eu) at
-  where
-    at : (i : ℕ) → i < length v → getD v i 0 ≡ getD u i 0
-    at i h =
-        let n = solid-count (box j) (rules .limits .boxed .solid) in
-        let l : i < j .m * points j = omega arith in
-        rw div-add-mod' at (same (i / points j) (i % points j) (div-lt-iff-lt-mul n .1 l) (mod-lt i n))
+use Rattle.demand.proofs.Runs.{incoming-is, Steps, steps-of, run-of, taken-is, loop-solves, ran-through}
+use Rattle.loops.proofs.LoopLaws.{tables-same}
+use Rattle.array.proofs.RunLaws.{ran-size}
 
 module _ (j : Job) (z : Size) (says : Says j (Accepted z)) where
   -- the rules that the verdict found kept
@@ -46,7 +34,7 @@ module _ (j : Job) (z : Size) (says : Says j (Accepted z)) where
   -- what the array leaves in the value table is what the loop leaves there
   pub demand-3 : (input places values places′ values′ looped : List ℕ) → length values ≡ j .m * points j → Ran j input places values (ticks j) places′ values′ → Looped j input looped → values′ ≡ looped
   demand-3 input places values places′ values′ looped size ran loop =
-      same-table j rules values′ looped (ran-size j input places values ran ∙ size) (loop .size) entry
+      tables-same j (rules .limits) values′ looped (ran-size ran ∙ size) (loop .size) entry
     where
       steps : Steps j input (ticks j) places′ values′
       steps = steps-of j input places values ran

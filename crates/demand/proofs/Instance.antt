@@ -10,7 +10,7 @@ use Rattle.loops.specs.Tables.{entryFor}
 use Rattle.loops.specs.Loops.{previous}
 use Rattle.loops.proofs.LoopLaws.{same-work}
 use Rattle.tick.specs.Frames.{rectangle, cells}
-use Rattle.demand.specs.Machine.{given}
+use Rattle.boxes.specs.Boxes.{given}
 use Rattle.demand.specs.Instances.{machine, nest}
 use Rattle.demand.proofs.Mapped.{Mapped}
 use Rattle.demand.proofs.Straight.{Laid, in-cell, LinkRule, mapped}

@@ -1,4 +1,4 @@
--- DEMAND 3 for the code: what the promises of `array::run_of` and `run_of_bytes` (`Runs`, `OfBytes`) and of `loops::looped::loop_of` and `loop_of_bytes` (`Loops`, `LoopsOf`) say together.
+-- DEMAND 3 for the code: what the promises of `array::run_of` and `run_of_bytes` (`Runs`, `RepliesOf`) and of `loops::looped::loop_of` and `loop_of_bytes` (`Loops`, `LoopsOf`) say together.
 use mathlib.Core.Path.{_≡_, refl, ap, subst, _∙_}
 use mathlib.Core.Logic.{inl, inr}
 use mathlib.Core.List.{List}
@@ -11,13 +11,13 @@ use Rattle.job.specs.Limits.{limits, Acceptable}
 use Rattle.job.proofs.Refusing.{Passes, first-unique, first-passes, then-first}
 use Rattle.reader.specs.Reading.{Reads}
 use Rattle.reader.specs.declared.Reply.the-variants as Read
-use Rattle.reader.proofs.Theorems.{reads-unique}
-use Rattle.loops.specs.Tables.{points}
+use Rattle.reader.proofs.Theorems.{of-bytes-job}
+use Rattle.loops.specs.Tables.{points, Long}
 use Rattle.loops.specs.Loops.{loopChecks, Loops}
 use Rattle.loops.specs.LoopBytes.{LoopsOf}
 use Rattle.loops.specs.declared.looped.Reply.{Reply as Answer}
 use Rattle.loops.specs.declared.looped.Reply.the-variants.{Points, Refused}
-use Rattle.array.specs.Runs.{runChecks, Runs, OfBytes}
+use Rattle.array.specs.Runs.{runChecks, Runs, RepliesOf}
 use Rattle.array.specs.declared.Reply.{Reply}
 use Rattle.array.specs.declared.Reply.the-variants as Array
 use Rattle.demand.proofs.Rules.{rules-kept}
@@ -43,7 +43,7 @@ module _ (j : Job) (input values places values′ places′ : List ℕ) (n : ℕ
   -- so the loop, with a value table so long, refuses nothing
   loop-passes : (before : List ℕ) → length before ≡ j .m * points j → First (loopChecks j input before) 0
   loop-passes before size =
-      then-first (limits j) (check 13 ((length input ≡ j .m * points j) × (length before ≡ j .m * points j)) done) 0
+      then-first (limits j) (check 13 (Long j (length input) (length before)) done) 0
       (within .shaped, (within .boxed, (within .sound, (within .rowed, tt)))) (inl ((input-size, size), refl))
 
   -- A run that answers a tick count leaves in the value table exactly what the loop on the same job and the same input leaves there, whatever stood in the two tables before;
@@ -56,27 +56,16 @@ module _ (j : Job) (input values places values′ places′ : List ℕ) (n : ℕ
 -- ---- of bytes
 module _ (s input values places values′ places′ : List ℕ) where
   -- a run of bytes that answers a tick count is the run of the job that they are
-  job-ran : (r : Reply) (n : ℕ) → OfBytes s (λ (j : Job). Runs j input values places values′ places′ r) ((values′ ≡ values) × (places′ ≡ places)) r → r ≡ Array.Ticks n → (j : Job) × Reads s (Read.Job j) × Runs j input values places values′ places′ (Array.Ticks n)
+  job-ran : (r : Reply) (n : ℕ) → RepliesOf s (λ (j : Job). Runs j input values places values′ places′ r) ((values′ ≡ values) × (places′ ≡ places)) r → r ≡ Array.Ticks n → (j : Job) × Reads s (Read.Job j) × Runs j input values places values′ places′ (Array.Ticks n)
   job-ran r n (inl refused) e = let refusal = refused .2 in let z : _≡_ {A = ℕ} 0 1 = cc in absurd (omega arith)
   job-ran r n (inr ran) e = (ran .0, ran .1, subst (Runs (ran .0) input values places values′ places′) e (ran .2))
 
-  -- the loop on bytes that are a job is the loop on that job
-  job-looped : (j : Job) → Reads s (Read.Job j) → (before after : List ℕ) (r : Answer) → LoopsOf s input before after r → Loops j input before after r
-  job-looped j reads before after r (inl refused) =
-      let e = reads-unique s (Read.Job j) (Read.Refused (refused .0)) reads (refused .1) in
-      let z : _≡_ {A = ℕ} 0 1 = cc in
-      absurd (omega arith)
-  job-looped j reads before after r (inr looped) =
-      let e = reads-unique s (Read.Job (looped .0)) (Read.Job j) (looped .1) reads in
-      let same : looped .0 ≡ j = cc in
-      subst (λ (j : Job). Loops j input before after r) same (looped .2)
-
   -- A run of job bytes that answers a tick count leaves in the value table exactly what the loop on the same bytes and the same input leaves there, where its value table is as long as the run's, whatever stood in the two before;
   -- the bytes are a job, and the loop answers its point count.
-  pub run-leaves-loop-bytes : (r : Reply) (n : ℕ) → OfBytes s (λ (j : Job). Runs j input values places values′ places′ r) ((values′ ≡ values) × (places′ ≡ places)) r → r ≡ Array.Ticks n → (before after : List ℕ) (r′ : Answer) → length before ≡ length values → LoopsOf s input before after r′ → (j : Job) × Reads s (Read.Job j) × (r′ ≡ Points (points j)) × (values′ ≡ after)
+  pub run-leaves-loop-bytes : (r : Reply) (n : ℕ) → RepliesOf s (λ (j : Job). Runs j input values places values′ places′ r) ((values′ ≡ values) × (places′ ≡ places)) r → r ≡ Array.Ticks n → (before after : List ℕ) (r′ : Answer) → length before ≡ length values → LoopsOf s input before after r′ → (j : Job) × Reads s (Read.Job j) × (r′ ≡ Points (points j)) × (values′ ≡ after)
   run-leaves-loop-bytes r n ran e before after r′ size loop =
       let h = job-ran r n ran e in
       let j = h .0 in
       let run = h .2 in
-      let left = run-leaves-loop j input values places values′ places′ n run before after r′ (size ∙ values-size j input values places values′ places′ n run) (job-looped j (h .1) before after r′ loop) in
+      let left = run-leaves-loop j input values places values′ places′ n run before after r′ (size ∙ values-size j input values places values′ places′ n run) (of-bytes-job s j (λ (j : Job). Loops j input before after r′) (h .1) loop) in
       (j, h .1, left .0, left .1)

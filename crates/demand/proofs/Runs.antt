@@ -7,19 +7,18 @@ use Prim.Native.Nat.{ℕ, zero, suc, _<_, _≤_}
 use native.Mathlib.Decide.{ℕ-discrete}
 use native.Mathlib.Omega.{arith}
 use lib.Dec.{ltb}
-use lib.ListN.{length}
 use borrow.Author.Tests.{lt-ltb, le-ltb}
-use Rattle.boxes.specs.Boxes.{backOf}
+use Rattle.boxes.specs.Boxes.{backOf, given}
 use Rattle.job.specs.declared.Job.{Job}
 use Rattle.mapping.specs.Mapping.{hop}
 use Rattle.loops.specs.Tables.{points, entryFor}
 use Rattle.loops.specs.Cells.{work}
-use Rattle.loops.specs.Loops.{previous, fromPrevious, Looped, incoming as loopIncoming}
+use Rattle.loops.specs.Loops.{previous, Looped, incoming as loopIncoming}
 use Rattle.tick.specs.Frames.{rectangle, held}
 use Rattle.tick.specs.Ticks.{pointAt, Ticked as ArrayTicked, arrival as arrayArrival, incoming as arrayIncoming, fresh as arrayFresh, stored as arrayStored}
 use Rattle.array.specs.Runs.{Ran}
 use Rattle.array.specs.Runs.Ran.{ready, ticked}
-use Rattle.demand.specs.Machine.{given, link, arrival, incoming, fresh, stored, taken, Ticked, Run, Solves}
+use Rattle.demand.specs.Machine.{link, arrival, incoming, fresh, stored, taken, Ticked, Run, Solves}
 use Rattle.demand.specs.Instances.{machine, nest}
 
 module _ (j : Job) (input : List ℕ) where
@@ -125,7 +124,7 @@ module _ (j : Job) (input : List ℕ) where
   unfolding loopIncoming taken
   taken-is values s k = by (previous j s k)
     where
-      by : (o : Option ℕ) → fromPrevious o (entryFor j values s) (entryFor j input s k) ≡ given o (entryFor j input s k) (λ (q : ℕ). entryFor j values s q)
+      by : (o : Option ℕ) → given o (entryFor j input s k) (entryFor j values s) ≡ given o (entryFor j input s k) (λ (q : ℕ). entryFor j values s q)
       by none = refl
       by (some q) = refl
 
@@ -134,11 +133,6 @@ module _ (j : Job) (input : List ℕ) where
   loop-solves values l s k ls lk = l .each s k ls lk ∙ ap (work j s) (fun-ext (λ u. taken-is values u k))
 
   -- ---- on the way
-  -- the value table keeps its size
-  pub ran-size : (places values : List ℕ) {n : ℕ} {places′ values′ : List ℕ} → Ran j input places values n places′ values′ → length values′ ≡ length values
-  ran-size places values ready = refl
-  ran-size places values (ticked r h) = h .length-values ∙ ran-size places values r
-
   -- a run has come through the places and values before every earlier tick
   pub ran-through : (places values : List ℕ) (t n : ℕ) (places′ values′ : List ℕ) → t ≤ n → Ran j input places values n places′ values′ → (p v : List ℕ) × Ran j input places values t p v
   ran-through places values t zero places′ values′ le ready = (places, values, subst (λ (n : ℕ). Ran j input places values n places values) (sym first) ready)

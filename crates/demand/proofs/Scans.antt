@@ -1,29 +1,18 @@
 -- The point of a tick at a cell, which the definition finds by a scan of the points: it is one whose tick and cell these are, and where no other is, that one.
-use mathlib.Core.Path.{_≡_, refl, sym, ap, subst, _∙_}
+use mathlib.Core.Path.{_≡_, refl, sym, ap, _∙_}
 use mathlib.Core.Bool.{Bool, true, false, cond}
 use mathlib.Core.Option.{some}
 use Prim.Native.Nat.{ℕ, zero, suc, _<_}
 use native.Mathlib.Decide.{ℕ-discrete}
 use native.Mathlib.Omega.{arith}
-use lib.Dec.{eqb}
-use Rattle.space.specs.Numbers.{Tells}
-use Rattle.space.proofs.Telling.{told, tells-and, tells-eq}
+use Rattle.space.proofs.Telling.{told}
 use Rattle.job.specs.declared.Job.{Job}
 use Rattle.loops.specs.Tables.{points}
 use Rattle.tick.specs.Frames.{tickOf, cellOf}
 use Rattle.tick.specs.Ticks.{lastOf, works, pointAt}
+use Rattle.tick.proofs.PointLaws.{last-only, works-tells}
 
 module _ (test : ℕ → Bool) where
-  -- what the scan finds passes the test
-  found-passes : (n k : ℕ) → lastOf test n ≡ some k → (k < n) × (test k ≡ true)
-  unfolding lastOf
-  found-passes zero k e = let z : _≡_ {A = ℕ} 0 1 = cc in absurd (omega arith)
-  found-passes (suc n) k e = by (test n) refl e (found-passes n k)
-    where
-      by : (b : Bool) → test n ≡ b → cond b (some n) (lastOf test n) ≡ some k → (lastOf test n ≡ some k → (k < n) × (test k ≡ true)) → (k < suc n) × (test k ≡ true)
-      by true t e more = let same : n ≡ k = cc in (omega arith, subst (λ (i : ℕ). test i ≡ true) same t)
-      by false t e more = let q = more e in (omega arith, q .1)
-
   -- the only one that passes is found
   only-found : (n k : ℕ) → k < n → test k ≡ true → ((i : ℕ) → i < n → test i ≡ true → i ≡ k) → lastOf test n ≡ some k
   unfolding lastOf
@@ -36,19 +25,15 @@ module _ (test : ℕ → Bool) where
       by false b (no ne) more = more (omega arith) t (λ i l. one i (omega arith))
 
 module _ (j : Job) where
-  -- the test of the definition tells whether tick and cell are the point's
-  works-tells : (t x k : ℕ) → Tells ((tickOf j k ≡ t) × (cellOf j k ≡ x)) (works j t x k)
-  works-tells t x k = tells-and (eqb (tickOf j k) t) (eqb (cellOf j k) x) (tells-eq (tickOf j k) t) (tells-eq (cellOf j k) x)
-
   -- what is worked in a tick at a cell is a point, of that tick and cell
   pub point-only : (t x k : ℕ) → pointAt j t x ≡ some k → (k < points j) × (cellOf j k ≡ x) × (tickOf j k ≡ t)
   point-only t x k e =
-      let q = found-passes (works j t x) (points j) k e in
-      let h = works-tells t x k .holds (q .1) in
+      let q = last-only (works j t x) (points j) k e in
+      let h = works-tells j t x k .holds (q .1) in
       (q .0, h .1, h .0)
 
   -- a point is worked in its tick at its cell, where no two points share both
   pub point-here : ((i k : ℕ) → i < points j → k < points j → tickOf j i ≡ tickOf j k → cellOf j i ≡ cellOf j k → i ≡ k) → (k : ℕ) → k < points j → pointAt j (tickOf j k) (cellOf j k) ≡ some k
   point-here one k lk =
-      only-found (works j (tickOf j k) (cellOf j k)) (points j) k lk (told _ (works-tells (tickOf j k) (cellOf j k) k) (refl, refl))
-      (λ i li e. let h = works-tells (tickOf j k) (cellOf j k) i .holds e in one i k li lk (h .0) (h .1))
+      only-found (works j (tickOf j k) (cellOf j k)) (points j) k lk (told _ (works-tells j (tickOf j k) (cellOf j k) k) (refl, refl))
+      (λ i li e. let h = works-tells j (tickOf j k) (cellOf j k) i .holds e in one i k li lk (h .0) (h .1))

@@ -3,7 +3,7 @@ use mathlib.Core.Bool.{true}
 use mathlib.Core.List.{List}
 use mathlib.Core.Option.{none, some}
 use Prim.Native.Nat.{ℕ, _<_}
-use Rattle.boxes.specs.Boxes.{backOf}
+use Rattle.boxes.specs.Boxes.{backOf, given}
 use Rattle.job.specs.declared.Job.{Job}
 use Rattle.mapping.specs.Mapping.{hop}
 use Rattle.loops.specs.Tables.{points, entryFor}
@@ -11,7 +11,7 @@ use Rattle.loops.specs.Cells.{work}
 use Rattle.loops.specs.Loops.{previous}
 use Rattle.tick.specs.Frames.{rectangle, cells, tickOf, cellOf, w}
 use Rattle.tick.specs.Ticks.{pointAt}
-use Rattle.demand.specs.Machine.{Machine, Nest, given}
+use Rattle.demand.specs.Machine.{Machine, Nest}
 
 -- the array of a job: streams, cells and points by their numbers; every point sends, and inputs are fed at the points
 abbrev pub machine : Job → List ℕ → Machine ℕ ℕ ℕ ℕ

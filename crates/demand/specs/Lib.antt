@@ -1,3 +1,4 @@
 pub mod Rules
 pub mod Machine
 pub mod Instances
+pub mod SmallJobs

@@ -4,11 +4,7 @@ use mathlib.Core.Path.{_≡_}
 use mathlib.Core.Bool.{Bool, cond}
 use mathlib.Core.Option.{Option, none, some}
 use Prim.Native.Nat.{ℕ, suc, _%_, _<_}
-
--- what f makes of the thing that is there, or else b
-abbrev pub given : {A B : Type 0} → Option A → B → (A → B) → B
-given none b f = b
-given (some a) b f = f a
+use Rattle.boxes.specs.Boxes.{given}
 
 -- what is there, or else b
 abbrev pub else : {A : Type 0} → Option A → A → A

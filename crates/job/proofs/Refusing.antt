@@ -53,3 +53,9 @@ accepted j f = by (first-passes (limits j) ((λ e. omega arith), ((λ e. omega a
 
 pub acceptable : (j : Job) → Acceptable j → First (limits j) 0
 acceptable j a = passes-first (limits j) (a .shaped, (a .boxed, (a .sound, (a .rowed, tt))))
+
+-- checks that pass with others behind them pass
+pub then-passed : (cs ds : Checks) → First (andThen cs ds) 0 → First cs 0
+then-passed done ds p = refl
+then-passed (check n P rest) ds (inl p) = inl (p .0, then-passed rest ds (p .1))
+then-passed (check n P rest) ds (inr p) = inr p

@@ -1,19 +1,15 @@
 -- Questions asked of each of some places, by a flag that says whether the place is used.
-use mathlib.Core.Path.{_≡_, refl}
-use mathlib.Core.Bool.{Bool, true, false}
+use mathlib.Core.Path.{_≡_}
+use mathlib.Core.Bool.{Bool, true}
 use Rattle.space.specs.Numbers.{Tells}
-use Rattle.space.proofs.Telling.{tells-as}
-
-yes-flag : {P : Type 0} (b : Bool) → Tells P b → P → b ≡ true
-yes-flag true t p = refl
-yes-flag false t p = absurd (t .fails refl p)
+use Rattle.space.proofs.Telling.{tells-as, told}
 
 -- U where the place is used, as P says, and I where it is not, as Q says
 pub flagged : {P Q U I : Type 0} {r : Bool} (b : Bool) → Tells P b → (Q → P → ⊥) → ((P → ⊥) → Q) → Tells ((b ≡ true → U) × ((b ≡ true → ⊥) → I)) r → Tells ((P → U) × (Q → I)) r
 flagged b p clash other t =
     tells-as
-    (λ h. (λ q. h .0 (yes-flag b p q), λ q. h .1 (λ e. clash q (p .holds e))))
-    (λ h. (λ e. h .0 (p .holds e), λ n. h .1 (other (λ q. n (yes-flag b p q))))) t
+    (λ h. (λ q. h .0 (told b p q), λ q. h .1 (λ e. clash q (p .holds e))))
+    (λ h. (λ e. h .0 (p .holds e), λ n. h .1 (other (λ q. n (told b p q))))) t
 
 -- four places, and three
 pub regroup4 : {A B C D E F G H : Type 0} {r : Bool} → Tells ((A × B) × ((C × D) × ((E × F) × (G × H)))) r → Tells ((A × (C × (E × (G × Unit {0})))) × (B × (D × (F × (H × Unit {0}))))) r

@@ -12,7 +12,7 @@ use Rattle.space.specs.declared.Vector.{Vector}
 use Rattle.boxes.specs.declared.Bounds.{Bounds}
 use Rattle.space.specs.Vectors.{entries}
 use Rattle.boxes.specs.Boxes.{Side, boxOf}
-use Rattle.space.proofs.VectorLaws.{unfour}
+use Rattle.space.proofs.VectorLaws.{unfour, vector-same}
 use Rattle.job.specs.declared.Stream.{Stream}
 use Rattle.job.specs.declared.Job.{Job}
 use Rattle.job.specs.Record.{streamsOf, rowsOf, FirstsFrom, OthersFrom, Firsts, Others}
@@ -110,11 +110,6 @@ module _
   joined-unique n xs ys l p p′ q q′ e = let z : n - 0 ≡ n = omega arith in pieces-unique 0 n xs ys l p p′ q q′ (rw z e)
 
 -- ---- vectors
--- vectors are equal by their entries
-pub vector-same : {a b c d a′ b′ c′ d′ : ℤ} → a ≡ a′ → b ≡ b′ → c ≡ c′ → d ≡ d′
-    → _≡_ {A = Vector} (record { x0 = a; x1 = b; x2 = c; x3 = d }) (record { x0 = a′; x1 = b′; x2 = c′; x3 = d′ })
-vector-same e0 e1 e2 e3 = rw (e0, e1, e2, e3)
-
 -- an entry is told by its byte
 entry-used : (z w : ℤ) → InByte z → InByte w → entryBytes 1 z ≡ entryBytes 1 w → z ≡ w
 entry-used z w h k e =

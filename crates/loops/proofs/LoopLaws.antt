@@ -1,18 +1,18 @@
 -- Laws of the loop: the point before one stands before it, and a column that is worked carries the loop one point further.
-use mathlib.Core.Path.{_≡_, refl, sym, ap, subst, _∙_}
+use mathlib.Core.Path.{_≡_, refl, sym, subst, _∙_}
 use mathlib.Core.Logic.{inl, inr, ⊎-elim}
 use mathlib.Core.List.{List}
 use mathlib.Core.Option.{Option, none, some}
 use Prim.Native.Nat.{ℕ, _+_, _*_, _/_, _%_, _<_, _≤_}
 use native.Mathlib.Decide.{ℕ-discrete}
 use native.Mathlib.Omega.{arith}
-use lib.Arith.{digits-lt, digits-div, digits-mod}
+use lib.Arith.{digits-lt}
 use lib.ListN.{length, getD, set, length-set}
 use lib.IntN.{ℤ}
-use lib.Seq.{getD-set-same, getD-set-other}
+use lib.Seq.{getD-set-same, getD-set-other, ext-getD}
 use Rattle.space.specs.Numbers.{difference}
 use Rattle.space.specs.Vectors.{entries, Sized}
-use Rattle.boxes.specs.Boxes.{In, pointOf}
+use Rattle.boxes.specs.Boxes.{In, pointOf, given}
 use Rattle.space.proofs.VectorLaws.{sized-up}
 use Rattle.boxes.proofs.BoxLaws.{solid-count, point-in}
 use Rattle.boxes.proofs.BackLaws.{back-before}
@@ -25,8 +25,10 @@ use Rattle.mapping.specs.Mapping.{box, stream, along}
 use Rattle.mapping.proofs.Fits.{low-sized, high-sized, solid}
 use Rattle.loops.specs.Tables.{points, entryFor}
 use Rattle.loops.specs.Cells.{ruled, work}
-use Rattle.loops.specs.Loops.{previous, fromPrevious, incoming, Looped, loopChecks}
-use Rattle.loops.specs.Steps.{Column, LoopedTo}
+use Rattle.loops.specs.Loops.{previous, incoming, Looped, loopChecks}
+use Rattle.loops.specs.Steps.{Column}
+use Rattle.space.proofs.Rows.{spots}
+use native.Mathlib.Nat.{div-add-mod', mod-lt, div-lt-iff-lt-mul}
 
 -- ---- the walk over the points
 -- the box of an acceptable job is small enough to walk
@@ -51,10 +53,15 @@ previous-before j a s k q ls lk e = back-before (box j) (along j s) k q (stream-
 pub entry-in : (j : Job) (s k : ℕ) → s < j .m → k < points j → s * points j + k < j .m * points j
 entry-in j s k ls lk = digits-lt ls lk
 
--- two entries at one place are one
-pub spots : (n x y r q : ℕ) → r < n → q < n → y * n + q ≡ x * n + r → (y ≡ x) × (q ≡ r)
-spots n x y r q lr lq e =
-    (sym (digits-div y lq) ∙ ap (λ (z : ℕ). z / n) e ∙ digits-div x lr, sym (digits-mod y lq) ∙ ap (λ (z : ℕ). z % n) e ∙ digits-mod x lr)
+-- tables with the same entries are the same
+pub tables-same : (j : Job) → Acceptable j → (v w : List ℕ) → length v ≡ j .m * points j → length w ≡ j .m * points j → ((s k : ℕ) → s < j .m → k < points j → entryFor j v s k ≡ entryFor j w s k) → v ≡ w
+tables-same j a v w ev ew same = ext-getD 0 v w (ev ∙ sym ew) at
+  where
+    at : (i : ℕ) → i < length v → getD v i 0 ≡ getD w i 0
+    at i h =
+        let n = some-point a in
+        let l : i < j .m * points j = omega (arith, ev) in
+        rw div-add-mod' at (same (i / points j) (i % points j) (div-lt-iff-lt-mul n .1 l) (mod-lt i n))
 
 -- an acceptable job has at most 4 streams and 1,024 points
 pub few-streams : {j : Job} → Acceptable j → j .m ≤ 4
@@ -113,6 +120,11 @@ column-step j k got l now s v c ls lk ev =
     go u lu (no ne) = away u k lk (λ e. ne (e .0)) ∙ c .here u (omega arith)
 
 -- ---- the loop over the points
+-- the columns before k are what the loop leaves
+pub record LoopedTo (j : Job) (input : List ℕ) (k : ℕ) (values : List ℕ) : Type 0 where
+  pub size : length values ≡ j .m * points j
+  pub each : (s q : ℕ) → s < j .m → q < k → entryFor j values s q ≡ work j s (λ (u : ℕ). incoming j input values u q)
+
 pub looped-start : (j : Job) (input values : List ℕ) → length values ≡ j .m * points j → LoopedTo j input 0 values
 looped-start j input values e = record { size = e; each = λ s q ls lq. absurd (omega arith) }
 
@@ -121,7 +133,7 @@ pub incoming-same : (j : Job) → Acceptable j → (input got values after : Lis
 unfolding incoming
 incoming-same j a input got values after k u q c lu lq le = by (previous j u q) refl
   where
-    by : (o : Option ℕ) → previous j u q ≡ o → fromPrevious o (entryFor j values u) (entryFor j input u q) ≡ fromPrevious o (entryFor j after u) (entryFor j input u q)
+    by : (o : Option ℕ) → previous j u q ≡ o → given o (entryFor j input u q) (entryFor j values u) ≡ given o (entryFor j input u q) (entryFor j after u)
     by none e = refl
     by (some r) e = let lr = previous-before j a u q r lu lq e in sym (c .others u r lu (omega arith) (λ x. omega arith))
 

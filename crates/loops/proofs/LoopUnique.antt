@@ -1,28 +1,22 @@
 -- The loop has one result: at most one table keeps the loop's equation, and at most one reply with one table is right.
-use mathlib.Core.Path.{_≡_, refl, sym, ap, subst, _∙_}
-use mathlib.Core.Logic.{inl, inr}
+use mathlib.Core.Path.{_≡_, refl, sym, ap, _∙_}
 use mathlib.Core.List.{List}
 use mathlib.Core.Option.{Option, none, some}
-use Prim.Native.Nat.{ℕ, zero, suc, _*_, _/_, _%_, _<_, _≤_}
-use native.Mathlib.Nat.{div-add-mod', mod-lt, div-lt-iff-lt-mul}
+use Prim.Native.Nat.{ℕ, zero, suc, _<_, _≤_}
 use native.Mathlib.Decide.{ℕ-discrete}
 use native.Mathlib.Omega.{arith}
-use lib.ListN.{length, getD}
-use lib.Seq.{ext-getD}
-use Rattle.boxes.proofs.BoxLaws.{solid-count}
+use Rattle.boxes.specs.Boxes.{given}
 use Rattle.job.specs.declared.Job.{Job}
 use Rattle.job.specs.Refusals.{First}
 use Rattle.job.specs.Limits.{Acceptable}
 use Rattle.job.proofs.Refusing.{first-unique, Passes, first-passes}
-use Rattle.reader.specs.declared.Reply.the-variants as Read
-use Rattle.reader.proofs.Theorems.{reads-unique}
-use Rattle.mapping.specs.Mapping.{box}
+use Rattle.reader.proofs.Theorems.{of-bytes-unique}
 use Rattle.loops.specs.Tables.{points, entryFor}
-use Rattle.loops.specs.Loops.{previous, fromPrevious, incoming, Looped, loopChecks, Loops}
+use Rattle.loops.specs.Loops.{previous, incoming, Looped, loopChecks, Loops}
 use Rattle.loops.specs.LoopBytes.{LoopsOf}
 use Rattle.loops.specs.declared.looped.Reply.{Reply}
 use Rattle.loops.specs.declared.looped.Reply.the-variants.{Points, Refused}
-use Rattle.loops.proofs.LoopLaws.{previous-before, same-work}
+use Rattle.loops.proofs.LoopLaws.{previous-before, same-work, tables-same}
 
 module _ (j : Job) (a : Acceptable j) (input v w : List ℕ) where
   -- what comes in is the same where the columns before are
@@ -30,7 +24,7 @@ module _ (j : Job) (a : Acceptable j) (input v w : List ℕ) where
   unfolding incoming
   incoming-from u k lu lk h = by (previous j u k) refl
     where
-      by : (o : Option ℕ) → previous j u k ≡ o → fromPrevious o (entryFor j v u) (entryFor j input u k) ≡ fromPrevious o (entryFor j w u) (entryFor j input u k)
+      by : (o : Option ℕ) → previous j u k ≡ o → given o (entryFor j input u k) (entryFor j v u) ≡ given o (entryFor j input u k) (entryFor j w u)
       by none e = refl
       by (some q) e = h q (previous-before j a u k q lu lk e)
 
@@ -56,13 +50,7 @@ module _ (j : Job) (a : Acceptable j) (input v w : List ℕ) where
 
     -- at most one table keeps the loop's equation
     pub looped-unique : v ≡ w
-    looped-unique = ext-getD 0 v w (p .size ∙ sym (q .size)) at
-      where
-        at : (i : ℕ) → i < length v → getD v i 0 ≡ getD w i 0
-        at i h =
-            let n = solid-count (box j) (a .boxed .solid) in
-            let l : i < j .m * points j = omega (arith, p .size) in
-            rw div-add-mod' at (columns-same (points j) (omega arith) (i / points j) (i % points j) (div-lt-iff-lt-mul n .1 l) (mod-lt i n))
+    looped-unique = tables-same j a v w (p .size) (q .size) (λ s k ls lk. columns-same (points j) (omega arith) s k ls lk)
 
 -- a job whose tables are taken is acceptable
 taken : (j : Job) (input values : List ℕ) → First (loopChecks j input values) 0 → Acceptable j
@@ -82,19 +70,4 @@ loops-unique j input before after after′ (Refused r) (Refused r′) p q =
 
 -- the same of bytes
 pub loops-of-unique : (s input before after after′ : List ℕ) (r r′ : Reply) → LoopsOf s input before after r → LoopsOf s input before after′ r′ → (r ≡ r′) × (after ≡ after′)
-loops-of-unique s input before after after′ r r′ (inl p) (inl q) =
-    let e = reads-unique s (Read.Refused (p .0)) (Read.Refused (q .0)) (p .1) (q .1) in
-    let n : p .0 ≡ q .0 = cc in
-    (p .2 ∙ ap Refused n ∙ sym (q .2), p .3 ∙ sym (q .3))
-loops-of-unique s input before after after′ r r′ (inl p) (inr q) =
-    let e = reads-unique s (Read.Refused (p .0)) (Read.Job (q .0)) (p .1) (q .1) in
-    let z : _≡_ {A = ℕ} 0 1 = cc in
-    absurd (omega arith)
-loops-of-unique s input before after after′ r r′ (inr p) (inl q) =
-    let e = reads-unique s (Read.Job (p .0)) (Read.Refused (q .0)) (p .1) (q .1) in
-    let z : _≡_ {A = ℕ} 0 1 = cc in
-    absurd (omega arith)
-loops-of-unique s input before after after′ r r′ (inr p) (inr q) =
-    let e = reads-unique s (Read.Job (p .0)) (Read.Job (q .0)) (p .1) (q .1) in
-    let same : p .0 ≡ q .0 = cc in
-    loops-unique (p .0) input before after after′ r r′ (p .2) (subst (λ (j : Job). Loops j input before after′ r′) (sym same) (q .2))
+loops-of-unique s input before after after′ r r′ = of-bytes-unique s (λ n p q. (p .0 ∙ sym (q .0), p .1 ∙ sym (q .1))) (λ (j : Job). loops-unique j input before after after′ r r′)

@@ -1,5 +1,5 @@
 -- Where a row stands in its table, when there is none, and that there is one answer.
-use mathlib.Core.Path.{_≡_, refl, sym, ap, subst, _∙_}
+use mathlib.Core.Path.{_≡_, refl, sym, ap, _∙_}
 use mathlib.Core.Logic.{inl, inr}
 use mathlib.Core.List.{List, []}
 use Prim.Native.Nat.{ℕ, _+_, _*_, _-_, _<_, _≤_}
@@ -10,11 +10,9 @@ use Rattle.job.specs.declared.Job.{Job}
 use Rattle.job.specs.Refusals.{First}
 use Rattle.job.specs.Limits.{limits, Acceptable}
 use Rattle.job.proofs.Refusing.{first-unique, acceptable}
-use Rattle.reader.specs.declared.Reply.{Reply}
-use Rattle.reader.specs.declared.Reply.the-variants as R
-use Rattle.reader.proofs.Theorems.{reads-unique}
+use Rattle.reader.proofs.Theorems.{of-bytes-unique}
 use Rattle.loops.specs.Tables.{points}
-use Rattle.loops.specs.Rows.{Row, RowIn, RowOf}
+use Rattle.loops.specs.Rows.{Row, RowOf}
 
 module _ (j : Job) (a : Acceptable j) (n : ℕ) (e : n ≡ points j) where
   -- s rows have at most 4,096 values
@@ -51,12 +49,6 @@ row-unique j table s p q (inl x) (inr y) = absurd (y .0 (x .0))
 row-unique j table s p q (inr x) (inl y) = absurd (x .0 (y .0))
 row-unique j table s p q (inr x) (inr y) = x .1 ∙ sym (y .1)
 
--- and so are two rows that a reply has
-row-in-unique : (reply : Reply) (table : List ℕ) (s : ℕ) (p q : List ℕ) → RowIn reply table s p → RowIn reply table s q → p ≡ q
-row-in-unique (R.Refused r) table s p q x y = x ∙ sym y
-row-in-unique (R.Job j) table s p q x y = row-unique j table s p q x y
-
--- and two rows that meet RowOf
+-- and so are two rows that meet RowOf
 pub row-of-unique : (bytes table : List ℕ) (s : ℕ) (p q : List ℕ) → RowOf bytes table s p → RowOf bytes table s q → p ≡ q
-row-of-unique bytes table s p q x y =
-    row-in-unique (x .0) table s p q (x .2) (subst (λ (reply : Reply). RowIn reply table s q) (reads-unique bytes (y .0) (x .0) (y .1) (x .1)) (y .2))
+row-of-unique bytes table s p q = of-bytes-unique bytes (λ n x y. x ∙ sym y) (λ (j : Job). row-unique j table s p q)

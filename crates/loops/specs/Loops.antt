@@ -1,15 +1,15 @@
 -- 'The loop takes points in box order, the incoming value being the stream's value at i - d, or the input; it answers the point count.'
 use mathlib.Core.Path.{_≡_}
 use mathlib.Core.List.{List}
-use mathlib.Core.Option.{Option, none, some}
+use mathlib.Core.Option.{Option}
 use Prim.Native.Nat.{ℕ, _*_, _<_}
 use lib.ListN.{length}
-use Rattle.boxes.specs.Boxes.{backOf}
+use Rattle.boxes.specs.Boxes.{backOf, given}
 use Rattle.job.specs.declared.Job.{Job}
 use Rattle.job.specs.Refusals.{Checks, done, check, First, andThen}
 use Rattle.job.specs.Limits.{limits}
 use Rattle.mapping.specs.Mapping.{box, along}
-use Rattle.loops.specs.Tables.{points, entryFor}
+use Rattle.loops.specs.Tables.{points, Long, entryFor}
 use Rattle.loops.specs.Cells.{work}
 use Rattle.loops.specs.declared.looped.Reply.{Reply}
 use Rattle.loops.specs.declared.looped.Reply.the-variants.{Points, Refused}
@@ -19,21 +19,17 @@ abbrev pub previous : Job → ℕ → ℕ → Option ℕ
 previous j s k = backOf (box j) (along j s) k
 
 -- 'the stream's value at i - d, or the input'
-abbrev pub fromPrevious : Option ℕ → (ℕ → ℕ) → ℕ → ℕ
-fromPrevious none value fed = fed
-fromPrevious (some k) value fed = value k
-
 unfoldable pub incoming : Job → List ℕ → List ℕ → ℕ → ℕ → ℕ
-incoming j input values s k = fromPrevious (previous j s k) (entryFor j values s) (entryFor j input s k)
+incoming j input values s k = given (previous j s k) (entryFor j input s k) (entryFor j values s)
 
 -- the table that the loop leaves: at every point of every stream the rule's value of the incoming values there
 pub record Looped (j : Job) (input values : List ℕ) : Type 0 where
   pub size : length values ≡ j .m * points j
   pub each : (s k : ℕ) → s < j .m → k < points j → entryFor j values s k ≡ work j s (λ (u : ℕ). incoming j input values u k)
 
--- 'The loop uses 1 to 8 and 13': 13 'input or value table not m × points long'
+-- 'The loop uses 1 to 8 and 13'
 abbrev pub loopChecks : Job → List ℕ → List ℕ → Checks
-loopChecks j input values = andThen (limits j) (check 13 ((length input ≡ j .m * points j) × (length values ≡ j .m * points j)) done)
+loopChecks j input values = andThen (limits j) (check 13 (Long j (length input) (length values)) done)
 
 -- what a reply says of the job and of the value table before and after
 abbrev pub Loops : Job → List ℕ → List ℕ → List ℕ → Reply → Type 0

@@ -6,9 +6,7 @@ use Prim.Native.Nat.{ℕ, _*_, _<_}
 use lib.ListN.{length, take, drop}
 use Rattle.job.specs.declared.Job.{Job}
 use Rattle.job.specs.Limits.{Acceptable}
-use Rattle.reader.specs.Reading.{Reads}
-use Rattle.reader.specs.declared.Reply.{Reply}
-use Rattle.reader.specs.declared.Reply.the-variants as R
+use Rattle.reader.specs.Reading.{OfBytes}
 use Rattle.loops.specs.Tables.{points}
 
 -- the job is acceptable, the table is m × points long and there is such a stream
@@ -19,11 +17,6 @@ HasRow j table s = Acceptable j × (length table ≡ j .m * points j) × (s < j 
 abbrev pub Row : Job → List ℕ → ℕ → List ℕ → Type 0
 Row j table s row = (HasRow j table s × (row ≡ take (points j) (drop (s * points j) table))) ⊎ ((HasRow j table s → ⊥) × (row ≡ []))
 
--- the row that a reply of the reader has: none where it refuses
-abbrev pub RowIn : Reply → List ℕ → ℕ → List ℕ → Type 0
-RowIn (R.Refused r) table s row = row ≡ []
-RowIn (R.Job j) table s row = Row j table s row
-
--- the same of the job that the bytes are
+-- the same of the job that the bytes are; none where they are refused
 abbrev pub RowOf : List ℕ → List ℕ → ℕ → List ℕ → Type 0
-RowOf bytes table s row = (reply : Reply) × Reads bytes reply × RowIn reply table s row
+RowOf bytes table s row = OfBytes bytes (λ (number : ℕ). row ≡ []) (λ (j : Job). Row j table s row)

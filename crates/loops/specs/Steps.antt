@@ -7,7 +7,6 @@ use Rattle.job.specs.declared.Job.{Job}
 use Rattle.job.specs.Limits.{Acceptable}
 use Rattle.loops.specs.Tables.{points, entryFor}
 use Rattle.loops.specs.Cells.{work}
-use Rattle.loops.specs.Loops.{incoming}
 
 -- the job is acceptable, n is its point count, and the table has a column for each point
 pub record Ready (j : Job) (table : List ℕ) (n : ℕ) : Type 0 where
@@ -20,8 +19,3 @@ pub record Column (j : Job) (k : ℕ) (got before : List ℕ) (n : ℕ) (after :
   pub size : length after ≡ j .m * points j
   pub here : (s : ℕ) → s < n → entryFor j after s k ≡ work j s (λ (u : ℕ). getD got u 0)
   pub others : (s q : ℕ) → s < j .m → q < points j → (q ≡ k → ⊥) → entryFor j after s q ≡ entryFor j before s q
-
--- the columns before k are what the loop leaves
-pub record LoopedTo (j : Job) (input : List ℕ) (k : ℕ) (values : List ℕ) : Type 0 where
-  pub size : length values ≡ j .m * points j
-  pub each : (s q : ℕ) → s < j .m → q < k → entryFor j values s q ≡ work j s (λ (u : ℕ). incoming j input values u q)

@@ -1,4 +1,5 @@
 -- 'Tables hold stream by stream, points in box order, as u32.'
+use mathlib.Core.Path.{_≡_}
 use mathlib.Core.List.{List}
 use Prim.Native.Nat.{ℕ, _+_, _*_}
 use lib.ListN.{getD}
@@ -9,6 +10,10 @@ use Rattle.mapping.specs.Mapping.{box}
 -- how many points the job has
 abbrev pub points : Job → ℕ
 points j = countOf (box j)
+
+-- 13: 'input or value table not m × points long', of tables so long
+abbrev pub Long : Job → ℕ → ℕ → Type 0
+Long j input values = (input ≡ j .m * points j) × (values ≡ j .m * points j)
 
 -- the entry of a table for stream s and the point at place k
 abbrev pub entryFor : Job → List ℕ → ℕ → ℕ → ℕ

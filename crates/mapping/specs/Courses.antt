@@ -13,6 +13,6 @@ abbrev pub placed : Job → List ℤ → List ℤ
 placed j x = H j x ∷ dotOf (entries (j .row0)) x ∷ dotOf (entries (j .row1)) x ∷ pos 0 ∷ []
 
 -- w, e and g of a stream
-pub record Runs (j : Job) (s : ℕ) (c : Course) : Type 0 where
+pub record CourseOf (j : Job) (s : ℕ) (c : Course) : Type 0 where
   pub unit : entries (c .unit) ≡ delay j s ∷ (hop j s ++ (pos 0 ∷ []))
   pub hops : c .g ≡ g j s

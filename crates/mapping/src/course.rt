@@ -7,7 +7,7 @@ ghost use Rattle.space.specs.Numbers.{difference};
 ghost use Rattle.space.specs.Vectors.{entries, Sized};
 ghost use Rattle.job.specs.Limits.{Acceptable};
 ghost use Rattle.mapping.specs.Mapping.{orOne};
-ghost use Rattle.mapping.specs.Courses.{placed as placedOf, Runs};
+ghost use Rattle.mapping.specs.Courses.{placed as placedOf, CourseOf};
 
 // One hop of a stream, as (w, e), and how many hops make d.
 pub struct Course {
@@ -41,7 +41,7 @@ fn or_one(g: u64) -> u64
 // The course of stream s.
 pub fn course_of(j: Job, s: u8) -> Course
     requires { ⌜ Acceptable j × (s < j .m) ⌝ }
-    ensures { λ r. ⌜ Runs j s r ⌝ }
+    ensures { λ r. ⌜ CourseOf j s r ⌝ }
 {
     let t = job::stream_at(j, s);
     let d = t.d;

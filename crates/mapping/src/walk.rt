@@ -17,7 +17,7 @@ ghost use Rattle.job.specs.Record.{zeroVector};
 ghost use Rattle.job.specs.Limits.{Acceptable};
 ghost use Rattle.mapping.specs.Mapping.{box, stream, Stationary};
 ghost use Rattle.mapping.specs.Collisions.{Collide, senders};
-ghost use Rattle.mapping.specs.Courses.{Runs};
+ghost use Rattle.mapping.specs.Courses.{CourseOf};
 ghost use Rattle.mapping.specs.Searches.{Still, MetAt, Meets, Finds-gap};
 
 // Whether two tokens meet, and how many hops apart.
@@ -43,7 +43,7 @@ fn is_still(j: Job, y: Vector) -> bool
 
 // Two tokens of stream s whose points are y apart: do they meet, and how many hops apart?
 pub fn meeting(j: Job, s: u8, c: Course, y: Vector) -> Met
-    requires { ⌜ Acceptable j × (s < j .m) × (Stationary j s → ⊥) × Runs j s c × Sized difference (entries y) ⌝ }
+    requires { ⌜ Acceptable j × (s < j .m) × (Stationary j s → ⊥) × CourseOf j s c × Sized difference (entries y) ⌝ }
     ensures { λ r. ⌜ MetAt j s (entries y) r ⌝ }
 {
     meeting_of(j, s, job::stream_at(j, s), c, y)
@@ -51,7 +51,7 @@ pub fn meeting(j: Job, s: u8, c: Course, y: Vector) -> Met
 
 // The same, where t is the stream.
 fn meeting_of(j: Job, s: u8, t: Stream, c: Course, y: Vector) -> Met
-    requires { ⌜ Acceptable j × (s < j .m) × (Stationary j s → ⊥) × Runs j s c × Sized difference (entries y) × (t ≡ stream j s) ⌝ }
+    requires { ⌜ Acceptable j × (s < j .m) × (Stationary j s → ⊥) × CourseOf j s c × Sized difference (entries y) × (t ≡ stream j s) ⌝ }
     ensures { λ r. ⌜ MetAt j s (entries y) r ⌝ }
 {
     let unit = c.unit;
@@ -137,7 +137,7 @@ pub fn cell_gap(j: Job) -> Gap
 
 // The first difference at which two tokens of the stream meet.
 pub fn link_gap(j: Job, s: u8, c: Course) -> Gap
-    requires { ⌜ Acceptable j × (s < j .m) × (Stationary j s → ⊥) × Runs j s c ⌝ }
+    requires { ⌜ Acceptable j × (s < j .m) × (Stationary j s → ⊥) × CourseOf j s c ⌝ }
     ensures { λ r. ⌜ Finds-gap (λ (y : List ℤ). (f : ℤ) × Meets j s y f) (senders j s) r ⌝ }
 {
     let t = job::stream_at(j, s);

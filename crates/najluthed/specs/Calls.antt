@@ -12,7 +12,7 @@ use Rattle.verdict.specs.declared.bytes.Room.the-variants as Room
 use Rattle.loops.specs.LoopBytes.{LoopsOf}
 use Rattle.loops.specs.declared.looped.Reply.{Reply as LoopReply}
 use Rattle.loops.specs.declared.looped.Reply.the-variants as Loop
-use Rattle.array.specs.Runs.{Runs, Steps, OfBytes, numberOf as numberIn, countIn}
+use Rattle.array.specs.Runs.{Runs, Steps, RepliesOf, numberOf as numberIn, countIn}
 use Rattle.array.specs.Lookups.{LooksOf}
 use Rattle.array.specs.declared.Reply.{Reply as RunReply}
 use Rattle.array.specs.declared.lookup.Worked.{Worked as Lookup}
@@ -41,14 +41,14 @@ AnswersRoom s a = (r : Room) × Counts (SaysOf s) r × GivesRoom r a
 abbrev pub AnswersRun : List ℕ → List ℕ → List ℕ → List ℕ → List ℕ → List ℕ → Done → Type 0
 AnswersRun s input values places values′ places′ a =
     (r : RunReply)
-    × OfBytes s (λ (j : Job). Runs j input values places values′ places′ r) ((values′ ≡ values) × (places′ ≡ places)) r
+    × RepliesOf s (λ (j : Job). Runs j input values places values′ places′ r) ((values′ ≡ values) × (places′ ≡ places)) r
     × Gives (numberIn r) (countIn r) a
 
 -- a single tick
 abbrev pub AnswersTick : ℕ → List ℕ → List ℕ → List ℕ → List ℕ → List ℕ → List ℕ → Done → Type 0
 AnswersTick t s input values places values′ places′ a =
     (r : RunReply)
-    × OfBytes s (λ (j : Job). Steps t j input values places values′ places′ r) ((values′ ≡ values) × (places′ ≡ places)) r
+    × RepliesOf s (λ (j : Job). Steps t j input values places values′ places′ r) ((values′ ≡ values) × (places′ ≡ places)) r
     × Gives (numberIn r) (countIn r) a
 
 -- the loop: the point count, and 0 for a refusal

@@ -3,3 +3,4 @@ pub mod Piecing
 pub mod Laying
 pub mod Replying
 pub mod Theorems
+pub mod Longest

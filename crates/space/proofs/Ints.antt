@@ -4,7 +4,7 @@ use mathlib.Core.Logic.{_⊎_, inl, inr, ⊎-elim}
 use Prim.Native.Nat.{ℕ, zero, suc, _+_, _*_, _/_, _%_, _^_, _<_, _≤_, _∣_}
 use native.Mathlib.Omega.{arith}
 use native.Mathlib.Decide.{decLe}
-use native.Mathlib.Nat.{lt-of-le-of-lt, le-trans, mul-le-mul, mul-le-mul-right, eq-of-mul-eq-mul-right, div-add-mod', mul-mod-left, mod-eq-zero-of-dvd, dvd-of-mod-eq-zero}
+use native.Mathlib.Nat.{lt-of-le-of-lt, le-trans, mul-le-mul, mul-le-mul-right, eq-of-mul-eq-mul-right, div-add-mod', mul-mod-left, mod-eq-zero-of-dvd}
 use mir.Syntax.{Width}
 use mir.Val.{SFits, hbits}
 use lib.IntN.{ℤ, pos, negsuc, negℤ, natAbs, _+ℤ_, _-ℤ_, _*ℤ_, +ℤ-assoc, +ℤ-comm, +ℤ-idl, +ℤ-idr, negℤ-+ℤ, negℤ-negℤ, *ℤ-comm, *ℤ-zero, zero-*ℤ}
@@ -25,9 +25,6 @@ module _ (x y z : ℤ) where
 
   pub +ℤ-*ℤ : (x +ℤ y) *ℤ z ≡ x *ℤ z +ℤ y *ℤ z
   +ℤ-*ℤ = rw (parts x, parts y, parts z) (simp ring⊖ (omega int⊖))
-
-  pub *ℤ--ℤ : x *ℤ (y -ℤ z) ≡ x *ℤ y -ℤ x *ℤ z
-  *ℤ--ℤ = rw (parts x, parts y, parts z) (simp ring⊖ (omega int⊖))
 
   pub -ℤ-*ℤ : (x -ℤ y) *ℤ z ≡ x *ℤ z -ℤ y *ℤ z
   -ℤ-*ℤ = rw (parts x, parts y, parts z) (simp ring⊖ (omega int⊖))
@@ -133,12 +130,6 @@ times-size {x = x} {y} p q = record { size = rw natAbs-* (mul-le-mul (p .size) (
 pub within : {b : ℕ} {z : ℤ} → negℤ (pos b) ≤ℤ z → z ≤ℤ pos b → Size b z
 within {b} {z} h k = record { size = omega (int, magnitude z, opposite (pos b)) }
 
-pub size-low : {b : ℕ} {z : ℤ} → Size b z → negℤ (pos b) ≤ℤ z
-size-low {b} {z} h = omega (int, magnitude z, opposite (pos b))
-
-pub size-high : {b : ℕ} {z : ℤ} → Size b z → z ≤ℤ pos b
-size-high {z = z} h = omega (int, magnitude z)
-
 pub size-between : {b : ℕ} {l z u : ℤ} → Size b l → Size b u → l ≤ℤ z → z ≤ℤ u → Size b z
 size-between {l = l} {z} {u} p q h k = record { size = omega (int, magnitude l, magnitude u, magnitude z) }
 
@@ -181,6 +172,3 @@ whole-quot {z} q d h e = *ℤ-cancel d h (sym (rem-exact z d (whole-rem q d e)) 
 -- what divides the size divides the number, and back
 pub dvd-whole : (g : ℕ) (x : ℤ) → g ∣ natAbs x → x ≡ quotZ x (pos g) *ℤ pos g
 dvd-whole g x d = rem-exact x (pos g) (natAbs-zero (natAbs-rem x (pos g) ∙ mod-eq-zero-of-dvd g d))
-
-pub whole-dvd : (g : ℕ) (x q : ℤ) → x ≡ q *ℤ pos g → g ∣ natAbs x
-whole-dvd g x q e = dvd-of-mod-eq-zero g (sym (natAbs-rem x (pos g)) ∙ ap natAbs (whole-rem q (pos g) e))

@@ -6,3 +6,4 @@ pub mod DivisorLaws
 pub mod MultipleLaws
 pub mod OrderLaws
 pub mod Telling
+pub mod Rows

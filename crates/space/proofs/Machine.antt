@@ -135,10 +135,6 @@ le-false a b e = lt-parts b a (ltZ-yes (not-le a b (fails e)))
 pub read-parts : (z : ℤ) → SFits w64 z → up (held z) + down z ≡ up z + down (held z)
 read-parts z f = eq-parts (held z) z (back f)
 
--- of a call's result: list `read-ok (c .f .result) (c .f .ok)`
-pub read-ok : (z : ℤ) → mag z < 2 ^ 63 → up (held z) + down z ≡ up z + down (held z)
-read-ok z h = read-parts z (in-range h)
-
 pub ruleset tests = (int, lt-true, lt-false, le-true, le-false, read-parts)
 
 -- ---- unsigned: a number under a bound that is below 2 ^ 64 fits

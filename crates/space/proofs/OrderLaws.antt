@@ -6,14 +6,14 @@ use mathlib.Core.List.{List, [], _∷_}
 use native.Mathlib.Nat.{suc-inj}
 use native.Mathlib.Omega.{arith}
 use lib.ListN.{length}
-use lib.IntN.{ℤ, pos, _+ℤ_, _-ℤ_, _*ℤ_}
+use lib.IntN.{ℤ, pos}
 use lib.Signed.{_<ℤ_}
 use Rattle.space.specs.Numbers.{Tells}
-use Rattle.space.specs.Vectors.{plusOf, minusOf, timesOf}
+use Rattle.space.specs.Vectors.{minusOf}
 use Rattle.space.specs.Order.{Before, Forward}
 use Rattle.space.specs.Multiples.{NonZero}
-use Rattle.space.proofs.Parts.{int, sum, difference}
-use Rattle.space.proofs.Ints.{trichotomy, *ℤ-positive, -ℤ-*ℤ, times-none}
+use Rattle.space.proofs.Parts.{int, difference}
+use Rattle.space.proofs.Ints.{trichotomy}
 
 pub before-irreflexive : (p : List ℤ) → Before p p → ⊥
 unfolding Before
@@ -61,13 +61,7 @@ forward-before [] (y ∷ ys) h = absurd h
 forward-before (x ∷ xs) (y ∷ ys) (inl h) = inl (omega (int, difference y x))
 forward-before (x ∷ xs) (y ∷ ys) (inr h) = let e = h .0 in inr (omega (int, difference y x), forward-before xs ys (h .1))
 
--- a positive multiple points forward as its vector does, and one that points forward is not 0
-pub forward-times : (z : ℤ) (v : List ℤ) → pos 0 <ℤ z → Forward v → Forward (timesOf z v)
-unfolding Forward timesOf
-forward-times z [] k h = h
-forward-times z (x ∷ xs) k (inl h) = inl (*ℤ-positive z x k h)
-forward-times z (x ∷ xs) k (inr h) = inr (times-none z (h .0), forward-times z xs k (h .1))
-
+-- a vector that points forward is not 0
 pub forward-nonzero : (v : List ℤ) → Forward v → NonZero v
 unfolding Forward
 forward-nonzero [] h = h
@@ -86,20 +80,3 @@ told-later xs z t = record { holds = λ e. inr (z, t .holds e); fails = λ e. �
 pub told-last : {x : ℤ} {r : Bool} → Tells (pos 0 <ℤ x) r → Tells (Forward (x ∷ [])) r
 unfolding Forward
 told-last t = record { holds = λ e. inl (t .holds e); fails = λ e. ⊎-elim (t .fails e) (λ h. h .1) }
-
--- the points p + f v come in the order of f, where v points forward: with f from 1 to g - 1 they stand strictly between p and p + g v
-pub along-before : (p v : List ℤ) (f g : ℤ) → length p ≡ length v → Forward v → f <ℤ g → Before (plusOf p (timesOf f v)) (plusOf p (timesOf g v))
-unfolding Before Forward plusOf timesOf
-along-before p [] f g e h k = absurd h
-along-before [] (x ∷ xs) f g e h k = absurd (omega arith)
-along-before (a ∷ p) (x ∷ xs) f g e (inl h) k = inl (further a x f g h k)
-  where
-    further : (a x f g : ℤ) → pos 0 <ℤ x → f <ℤ g → (a +ℤ f *ℤ x) <ℤ (a +ℤ g *ℤ x)
-    further a x f g h k =
-        let m = *ℤ-positive (g -ℤ f) x (omega (int, difference g f)) h in
-        let d = -ℤ-*ℤ g f x in
-        omega (int, difference (g *ℤ x) (f *ℤ x), sum a (f *ℤ x), sum a (g *ℤ x))
-along-before (a ∷ p) (x ∷ xs) f g e (inr h) k = inr (level a x f g (h .0), along-before p xs f g (suc-inj e) (h .1) k)
-  where
-    level : (a x f g : ℤ) → x ≡ pos 0 → a +ℤ f *ℤ x ≡ a +ℤ g *ℤ x
-    level a x f g e = rw (times-none f e, times-none g e)

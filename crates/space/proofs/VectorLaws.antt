@@ -7,28 +7,18 @@ use native.Mathlib.Omega.{arith}
 use lib.ListN.{length}
 use lib.IntN.{ℤ, pos, natAbs, _+ℤ_, _-ℤ_, _*ℤ_, *ℤ-zero}
 use Rattle.space.specs.Numbers.{Size}
-use Rattle.space.specs.Vectors.{dotOf, plusOf, minusOf, timesOf, Sizes, Sized}
+use Rattle.space.specs.declared.Vector.{Vector}
+use Rattle.space.specs.Vectors.{entries, dotOf, plusOf, minusOf, timesOf, Sizes, Sized}
 use Rattle.space.proofs.Parts.{int, sum, difference, parts, ring⊖, int⊖}
-use Rattle.space.proofs.Ints.{ring, natAbs-+, size-up, plus-size, minus-size, times-size, *ℤ-assoc, one-*ℤ}
+use Rattle.space.proofs.Ints.{ring, natAbs-+, size-up, plus-size, minus-size, times-size}
 
 -- ---- products. Each step of an induction is a law on numbers
 module _ (a x y D E F : ℤ) where
-  plus-step : D ≡ E +ℤ F → a *ℤ (x +ℤ y) +ℤ D ≡ a *ℤ x +ℤ E +ℤ (a *ℤ y +ℤ F)
-  plus-step e = rw e (simp ring)
-
   minus-step : D ≡ E -ℤ F → a *ℤ (x -ℤ y) +ℤ D ≡ a *ℤ x +ℤ E -ℤ (a *ℤ y +ℤ F)
   minus-step e = rw (e, parts a, parts x, parts y, parts E, parts F) (simp ring⊖ (omega int⊖))
 
   times-step : D ≡ x *ℤ E → a *ℤ (x *ℤ y) +ℤ D ≡ x *ℤ (a *ℤ y +ℤ E)
   times-step e = rw e (simp ring)
-
-pub dot-plus : (h x y : List ℤ) → length x ≡ length y → dotOf h (plusOf x y) ≡ dotOf h x +ℤ dotOf h y
-unfolding dotOf plusOf
-dot-plus [] x y e = refl
-dot-plus (a ∷ h) [] [] e = refl
-dot-plus (a ∷ h) [] (y ∷ ys) e = absurd (omega arith)
-dot-plus (a ∷ h) (x ∷ xs) [] e = absurd (omega arith)
-dot-plus (a ∷ h) (x ∷ xs) (y ∷ ys) e = plus-step a x y _ _ _ (dot-plus h xs ys (suc-inj e))
 
 pub dot-minus : (h x y : List ℤ) → length x ≡ length y → dotOf h (minusOf x y) ≡ dotOf h x -ℤ dotOf h y
 unfolding dotOf minusOf
@@ -44,7 +34,7 @@ dot-times [] z x = sym (*ℤ-zero z)
 dot-times (a ∷ h) z [] = sym (*ℤ-zero z)
 dot-times (a ∷ h) z (x ∷ xs) = times-step a z x _ (dotOf h xs) (pos 0) (dot-times h z xs)
 
--- ---- what undoes what, and multiples of multiples
+-- ---- what undoes what
 pub plus-minus : (p q : List ℤ) → length p ≡ length q → plusOf p (minusOf q p) ≡ q
 unfolding plusOf minusOf
 plus-minus [] [] e = refl
@@ -59,33 +49,7 @@ minus-plus [] (y ∷ ys) e = absurd (omega arith)
 minus-plus (x ∷ xs) [] e = absurd (omega arith)
 minus-plus (x ∷ xs) (y ∷ ys) e = ap₂ _∷_ (omega (int, sum x y, difference (x +ℤ y) x)) (minus-plus xs ys (suc-inj e))
 
-pub times-times : (z w : ℤ) (x : List ℤ) → timesOf z (timesOf w x) ≡ timesOf (z *ℤ w) x
-unfolding timesOf
-times-times z w [] = refl
-times-times z w (x ∷ xs) = ap₂ _∷_ (sym (*ℤ-assoc z w x)) (times-times z w xs)
-
-pub times-one : (x : List ℤ) → timesOf (pos 1) x ≡ x
-unfolding timesOf
-times-one [] = refl
-times-one (x ∷ xs) = ap₂ _∷_ (one-*ℤ x) (times-one xs)
-
--- p + z x + w x is p + (z + w) x
-twice-step : (a z w x : ℤ) → a +ℤ z *ℤ x +ℤ w *ℤ x ≡ a +ℤ (z +ℤ w) *ℤ x
-twice-step a z w x = rw (parts a, parts z, parts w, parts x) (simp ring⊖ (omega int⊖))
-
-pub plus-times : (p : List ℤ) (z w : ℤ) (x : List ℤ) → plusOf (plusOf p (timesOf z x)) (timesOf w x) ≡ plusOf p (timesOf (z +ℤ w) x)
-unfolding plusOf timesOf
-plus-times [] z w x = refl
-plus-times (a ∷ p) z w [] = refl
-plus-times (a ∷ p) z w (x ∷ xs) = ap₂ _∷_ (twice-step a z w x) (plus-times p z w xs)
-
 -- ---- lengths
-pub plus-length : (p q : List ℤ) → length p ≡ length q → length (plusOf p q) ≡ length p
-unfolding plusOf
-plus-length [] q e = refl
-plus-length (x ∷ xs) [] e = absurd (omega arith)
-plus-length (x ∷ xs) (y ∷ ys) e = ap suc (plus-length xs ys (suc-inj e))
-
 pub minus-length : (q p : List ℤ) → length q ≡ length p → length (minusOf q p) ≡ length q
 unfolding minusOf
 minus-length [] p e = refl
@@ -149,3 +113,11 @@ four e f g h = cc
 
 pub unfour : {A : Type 0} {a b c d a′ b′ c′ d′ : A} → _≡_ {A = List A} (a ∷ b ∷ c ∷ d ∷ []) (a′ ∷ b′ ∷ c′ ∷ d′ ∷ []) → (a ≡ a′) × (b ≡ b′) × (c ≡ c′) × (d ≡ d′)
 unfour e = (cc, cc, cc, cc)
+
+-- ---- the struct of four
+-- vectors are equal by their entries
+pub vector-same : {a b c d a′ b′ c′ d′ : ℤ} → a ≡ a′ → b ≡ b′ → c ≡ c′ → d ≡ d′ → _≡_ {A = Vector} (record { x0 = a; x1 = b; x2 = c; x3 = d }) (record { x0 = a′; x1 = b′; x2 = c′; x3 = d′ })
+vector-same e0 e1 e2 e3 = rw (e0, e1, e2, e3)
+
+pub vector-of : {u v : Vector} → entries u ≡ entries v → u ≡ v
+vector-of {u} {v} e = let w = unfour e in vector-same (w .0) (w .1) (w .2) (w .3)

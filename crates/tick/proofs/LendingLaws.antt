@@ -11,7 +11,7 @@ use lib.Seq.{length-take-le}
 use lib.IntN.{ℤ}
 use Rattle.space.specs.Numbers.{limit}
 use Rattle.space.specs.Vectors.{entries, Sizes}
-use Rattle.boxes.specs.Boxes.{Box, Solid, countOf, backOf}
+use Rattle.boxes.specs.Boxes.{Box, Solid, countOf, backOf, given}
 use Rattle.space.proofs.Ints.{size-up}
 use Rattle.boxes.proofs.BoxLaws.{SidesSized}
 use Rattle.boxes.proofs.BackLaws.{back-below}
@@ -20,7 +20,7 @@ use Rattle.job.specs.Limits.{Acceptable}
 use Rattle.mapping.specs.Mapping.{hop}
 use Rattle.mapping.proofs.Fits.{row0-sized, row1-sized}
 use Rattle.mapping.proofs.Meetings.{unit-sized}
-use Rattle.bands.specs.Bands.{rectangleOf, at, given, arrivalIn, Shaped, Lent}
+use Rattle.bands.specs.Bands.{rectangleOf, at, arrivalIn, Shaped, Lent}
 use Rattle.bands.specs.declared.Band.{Band}
 use Rattle.tick.specs.Frames.{rectangle, cells, w, from}
 use Rattle.tick.specs.Ticks.{arrival}

@@ -1,10 +1,15 @@
--- Laws of the last of the first n numbers that passes a test.
+-- Laws of the last of the first n numbers that passes a test, and of the test for the point of a tick at a cell.
 use mathlib.Core.Path.{_≡_, refl}
 use mathlib.Core.Bool.{Bool, true, false, cond}
 use mathlib.Core.Option.{some}
 use Prim.Native.Nat.{ℕ, zero, suc, _<_}
 use native.Mathlib.Omega.{arith}
-use Rattle.tick.specs.Ticks.{lastOf}
+use Rattle.tick.specs.Ticks.{lastOf, works}
+use lib.Dec.{eqb}
+use Rattle.space.specs.Numbers.{Tells}
+use Rattle.space.proofs.Telling.{tells-and, tells-eq}
+use Rattle.job.specs.declared.Job.{Job}
+use Rattle.tick.specs.Frames.{tickOf, cellOf}
 
 -- it is one of them, and passes
 pub last-only : (test : ℕ → Bool) (n k : ℕ) → lastOf test n ≡ some k → (k < n) × (test k ≡ true)
@@ -18,3 +23,7 @@ last-only test (suc n) k e = by (test n) refl e (last-only test n k)
 
 pub last-below : (test : ℕ → Bool) (n k : ℕ) → lastOf test n ≡ some k → k < n
 last-below test n k e = last-only test n k e .0
+
+-- the test of a tick and a cell tells whether they are the point's
+pub works-tells : (j : Job) (t x k : ℕ) → Tells ((tickOf j k ≡ t) × (cellOf j k ≡ x)) (works j t x k)
+works-tells j t x k = tells-and (eqb (tickOf j k) t) (eqb (cellOf j k) x) (tells-eq (tickOf j k) t) (tells-eq (cellOf j k) x)

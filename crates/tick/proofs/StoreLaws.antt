@@ -12,17 +12,18 @@ use lib.Arith.{digits-lt}
 use lib.ListN.{length, getD, set, take, drop, length-append, length-drop, length-set}
 use lib.Seq.{length-take-le, take-at, drop-at, drop-drop, getD-take, getD-set-same, getD-set-other}
 use borrow.Author.Tests.{eq-eqb, ne-eqb}
-use Rattle.boxes.specs.Boxes.{Box, countOf}
+use Rattle.boxes.specs.Boxes.{Box, countOf, given}
 use Rattle.job.specs.declared.Job.{Job}
-use Rattle.bands.specs.Bands.{rectangleOf, at, given, arrivalIn, Shifted}
+use Rattle.bands.specs.Bands.{rectangleOf, at, arrivalIn, Shifted}
 use Rattle.bands.specs.declared.Band.{Band}
-use Rattle.bands.proofs.BandLaws.{spots, its-place}
+use Rattle.bands.proofs.BandLaws.{its-place}
 use Rattle.loops.specs.Tables.{points, entryFor}
 use Rattle.tick.specs.Frames.{rectangle, cells, tickOf, cellOf, w, from, held}
 use Rattle.tick.specs.Ticks.{lastOf, works, arrival}
 use Rattle.tick.specs.Steps.{Runnable, Banded, Roomy, Band-lent, Slot, putOne, workedOr, Stored}
 use Rattle.tick.proofs.RoomLaws.{from-among, delay-some, part-at}
 use Rattle.tick.proofs.LendingLaws.{part-size, from-first, band-fits, band-next, arrives}
+use Rattle.space.proofs.Rows.{spots}
 
 -- ---- a band as it is lent
 -- a band of the same length is lent as well

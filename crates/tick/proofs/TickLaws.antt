@@ -1,24 +1,15 @@
 -- A tick is its work and its storing.
-use mathlib.Core.Path.{_≡_, refl, sym, ap, _∙_}
-use mathlib.Core.Bool.{Bool, true, false, _&&_}
+use mathlib.Core.Path.{_≡_, refl, ap, _∙_}
+use mathlib.Core.Bool.{true}
 use mathlib.Core.List.{List}
 use mathlib.Core.Option.{Option, none, some}
 use Prim.Native.Nat.{ℕ, _<_}
-use lib.Dec.{eqb}
-use borrow.Author.Tests.{eqb-true}
-use Rattle.space.proofs.Machine.{never}
 use Rattle.job.specs.declared.Job.{Job}
-use Rattle.bands.specs.Bands.{given}
+use Rattle.boxes.specs.Boxes.{given}
 use Rattle.loops.specs.Tables.{points, entryFor}
-use Rattle.tick.specs.Frames.{tickOf, cellOf}
 use Rattle.tick.specs.Ticks.{works, pointAt, arrival, fresh, stored, Ticked}
 use Rattle.tick.specs.Steps.{Points, workedOr, Stored}
-use Rattle.tick.proofs.PointLaws.{last-only}
-
-both : (a b : Bool) → a && b ≡ true → (a ≡ true) × (b ≡ true)
-both true true e = (refl, refl)
-both true false e = never (sym e)
-both false b e = never (sym e)
+use Rattle.tick.proofs.PointLaws.{last-only, works-tells}
 
 module _ {j : Job} {input : List ℕ} {t : ℕ} {places values after : List ℕ} (p : Points j input t places (points j) values after) where
   -- what a cell stores is the value of its point in the table after the work, or the arrival
@@ -30,8 +21,8 @@ module _ {j : Job} {input : List ℕ} {t : ℕ} {places values after : List ℕ}
       by none h = refl
       by (some k) h =
           let q = h k refl in
-          let e = both (eqb (tickOf j k) t) (eqb (cellOf j k) x) (q .1) in
-          p .worked s k ls (q .0) (eqb-true (tickOf j k) t (e .0)) ∙ ap (λ (y : ℕ). fresh j input t places s y k) (eqb-true (cellOf j k) x (e .1))
+          let e = works-tells j t x k .holds (q .1) in
+          p .worked s k ls (q .0) (e .0) ∙ ap (λ (y : ℕ). fresh j input t places s y k) (e .1)
 
   -- the work and the storing are the tick
   pub tick-whole : {places′ : List ℕ} → Stored j t after (j .m) places places′ → Ticked j input t places values places′ after

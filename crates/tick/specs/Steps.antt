@@ -1,17 +1,18 @@
--- What the steps of a tick hold; only contracts of private functions cite these.
+-- What a tick asks for and what its steps leave; contracts of functions that serve the array cite these.
 use mathlib.Core.Path.{_≡_}
 use mathlib.Core.Bool.{cond}
 use mathlib.Core.List.{List, [], _∷_}
 use Prim.Native.Nat.{ℕ, _*_, _%_, _<_, _≤_}
 use lib.ListN.{length, getD, drop}
 use lib.IntN.{ℤ}
+use Rattle.space.specs.Numbers.{roomLimit}
 use Rattle.space.specs.Vectors.{entries}
-use Rattle.boxes.specs.Boxes.{Box, across, leastOf, greatestOf}
+use Rattle.boxes.specs.Boxes.{Box, across, leastOf, greatestOf, given}
 use Rattle.job.specs.declared.Job.{Job}
 use Rattle.job.specs.Limits.{Acceptable}
 use Rattle.mapping.specs.Mapping.{box, hop}
 use Rattle.verdict.specs.Rules.{Ahead, Even}
-use Rattle.bands.specs.Bands.{rectangleOf, hopOf, at, given, Lent}
+use Rattle.bands.specs.Bands.{rectangleOf, hopOf, at, Lent}
 use Rattle.bands.specs.declared.Band.{Band}
 use Rattle.loops.specs.Tables.{points, entryFor}
 use Rattle.tick.specs.Frames.{reach, rectangle, cells, clock, ticks, tickOf, cellOf, w, from, room, held}
@@ -29,7 +30,7 @@ pub record Runnable (j : Job) : Type 0 where
   pub acceptable : Acceptable j
   pub ahead : AllAhead j
   pub even : (s : ℕ) → s < j .m → Even j s
-  pub few : room j ≤ 8192
+  pub few : room j ≤ roomLimit
 
 -- r is the reach of a row over the box
 pub record Reaches (h : List ℤ) (B : Box) (r : Reach) : Type 0 where
@@ -54,9 +55,7 @@ pub record Framed (j : Job) (f : Frame) : Type 0 where
   pub points : f .points ≡ points j
   pub start : f .start ≡ clock j .low
   pub low0 : f .low0 ≡ leastOf (entries (j .row0)) (box j)
-  pub high0 : f .high0 ≡ greatestOf (entries (j .row0)) (box j)
   pub low1 : f .low1 ≡ leastOf (entries (j .row1)) (box j)
-  pub high1 : f .high1 ≡ greatestOf (entries (j .row1)) (box j)
   pub columns : f .columns ≡ across (reach (entries (j .row1)) (box j))
   pub cells : f .cells ≡ cells j
   pub bands : AllBanded j (f .bands)

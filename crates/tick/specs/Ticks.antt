@@ -6,10 +6,9 @@ use mathlib.Core.Option.{Option, none, some}
 use Prim.Native.Nat.{ℕ, zero, suc, _%_, _<_}
 use lib.Dec.{eqb}
 use lib.ListN.{length, drop}
-use Rattle.boxes.specs.Boxes.{backOf}
+use Rattle.boxes.specs.Boxes.{backOf, given}
 use Rattle.job.specs.declared.Job.{Job}
 use Rattle.mapping.specs.Mapping.{hop}
-use Rattle.bands.specs.Bands.{given}
 use Rattle.loops.specs.Tables.{points, entryFor}
 use Rattle.loops.specs.Cells.{work}
 use Rattle.loops.specs.Loops.{previous}

@@ -4,8 +4,8 @@ use boxes::Bounds;
 use job::Job;
 use space::Vector;
 ghost use mathlib.Core.Path.{_≡_};
-ghost use Prim.Native.Nat.{_<_, _≤_};
-ghost use lib.ListN.{length};
+ghost use Prim.Native.Nat.{ℕ, _<_, _≤_};
+ghost use lib.ListN.{length, getD};
 ghost use Rattle.space.specs.Numbers.{entry, coordinate};
 ghost use Rattle.space.specs.Vectors.{entries, Sized};
 ghost use Rattle.boxes.specs.Boxes.{Solid, boxOf, pointOf};
@@ -19,9 +19,7 @@ pub struct Frame {
     pub points: u64,
     pub start: i64,
     pub low0: i64,
-    pub high0: i64,
     pub low1: i64,
-    pub high1: i64,
     pub columns: u64,
     pub cells: u64,
     pub bands: Bands,
@@ -69,9 +67,7 @@ pub fn frame_of(j: Job) -> Frame
         points: boxes::count(b),
         start: clock.low,
         low0: first.low,
-        high0: first.high,
         low1: second.low,
-        high1: second.high,
         columns: second.count,
         cells: first.count * second.count,
         bands: bands_of(j, first, second),
@@ -101,7 +97,9 @@ pub fn cell_at(j: Job, f: Frame, p: Vector, k: u64) -> u64
 // The tick of every point, in box order.
 pub fn fill_timetable(j: Job, f: Frame, timetable: &mut [u64])
     requires { ⌜ Acceptable j × Framed j f × (pointsOf j ≤ length (now timetable)) ⌝ }
-    ensures { λ _. ⌜ Timed j (pointsOf j) (now (timetable .exit)) ⌝ }
+    ensures timed { λ _. ⌜ Timed j (pointsOf j) (now (timetable .exit)) ⌝ }
+    ensures size { λ _. ⌜ length (now (timetable .exit)) ≡ length (now (timetable .entry)) ⌝ }
+    ensures rest { λ _. ⌜ ((i : ℕ) → pointsOf j ≤ i → getD (now (timetable .exit)) i 0 ≡ getD (now (timetable .entry)) i 0) ⌝ }
 {
     let points = f.points;
     let b = j.bounds;

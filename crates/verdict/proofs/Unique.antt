@@ -1,7 +1,7 @@
 -- Demand 2, the first half: at most one reply is the verdict on a job.
 use mathlib.Core.Path.{_≡_, refl, sym, ap, ap₂, subst, _∙_}
 use mathlib.Core.Logic.{_⊎_, inl, inr, ⊎-elim}
-use mathlib.Core.List.{List, [], _∷_}
+use mathlib.Core.List.{List}
 use Prim.Native.Nat.{ℕ, zero, suc, _*_, _<_, _≤_}
 use native.Mathlib.Omega.{arith}
 use native.Mathlib.Decide.{decLe}
@@ -12,7 +12,7 @@ use Rattle.space.specs.Vectors.{entries, plusOf, minusOf}
 use Rattle.space.specs.Order.{Before, AtMost}
 use Rattle.boxes.specs.Boxes.{Box}
 use Rattle.space.proofs.Parts.{int}
-use Rattle.space.proofs.VectorLaws.{plus-minus, unfour}
+use Rattle.space.proofs.VectorLaws.{plus-minus, vector-of}
 use Rattle.space.proofs.MultipleLaws.{times-cancel}
 use Rattle.space.proofs.OrderLaws.{before-irreflexive, before-trans}
 use Rattle.boxes.proofs.ExtremeLaws.{least-unique, greatest-unique}
@@ -22,12 +22,13 @@ use Rattle.job.proofs.Refusing.{first-unique, acceptable}
 use Rattle.mapping.specs.Mapping.{hop, delays}
 use Rattle.mapping.proofs.Courses.{hop-nonzero}
 use Rattle.verdict.specs.Rules.{Meeting, Kept, Keeps, Span, Sizes}
-use Rattle.verdict.specs.Replies.{Lowest, FirstPair, turn, Claims, Says}
+use Rattle.verdict.specs.Replies.{Lowest, FirstPair, turn, Claims, Says, Answers}
 use Rattle.verdict.specs.declared.Size.{Size}
 use Rattle.verdict.specs.declared.Pair.{Pair}
 use Rattle.verdict.specs.declared.Clash.{Clash}
 use Rattle.verdict.specs.declared.Verdict.{Verdict}
 use Rattle.verdict.specs.declared.Verdict.the-variants.{Accepted, Limit, Precedence, Hop, Cell, Link}
+use Rattle.verdict.specs.declared.numbers.Answer.{Answer}
 
 -- ---- the rules kept before a later reply were kept before an earlier one, and its own rule too
 fewer : (j : Job) (m n : ℕ) → m < n → Keeps j n → Kept j m
@@ -76,13 +77,6 @@ module _ {P : List ℤ → List ℤ → Type 0} {p q p′ q′ : List ℤ} (f : 
 
   same-end : length p ≡ length q → length p′ ≡ length q′ → q ≡ q′
   same-end a b = sym (plus-minus p q a) ∙ ap₂ plusOf same-point same-gap ∙ plus-minus p′ q′ b
-
--- a struct of four is its entries
-vector-of : {u v : Vector} → entries u ≡ entries v → u ≡ v
-vector-of {u} {v} e = made (u .x0) (u .x1) (u .x2) (u .x3) (v .x0) (v .x1) (v .x2) (v .x3) e
-  where
-    made : (a b c d a′ b′ c′ d′ : ℤ) → _≡_ {A = List ℤ} (a ∷ b ∷ c ∷ d ∷ []) (a′ ∷ b′ ∷ c′ ∷ d′ ∷ []) → _≡_ {A = Vector} (record { x0 = a; x1 = b; x2 = c; x3 = d }) (record { x0 = a′; x1 = b′; x2 = c′; x3 = d′ })
-    made a b c d a′ b′ c′ d′ e = let w = unfour e in rw (w .0, w .1, w .2, w .3)
 
 pub pair-unique : {P : List ℤ → List ℤ → Type 0} (c c′ : Pair) → FirstPair P (entries (c .p)) (entries (c .q)) → FirstPair P (entries (c′ .p)) (entries (c′ .q)) → c ≡ c′
 pair-unique c c′ f f′ = made (c .p) (c .q) (c′ .p) (c′ .q) (vector-of (same-point f f′)) (vector-of (same-end f f′ refl refl))
@@ -180,3 +174,10 @@ says-unique j v w s t = at (decLe (suc (turn v)) (turn w)) (decLe (suc (turn w))
     at (yes h) k = absurd (broken j v (omega (arith, most w)) (s .claim) (fewer j (turn v) (turn w) h (t .kept)))
     at (no h) (yes k) = absurd (broken j w (omega (arith, most v)) (t .claim) (fewer j (turn w) (turn v) k (s .kept)))
     at (no h) (no k) = same j v w (omega arith) (s .claim) (t .claim)
+
+-- one answer in numbers
+pub answers-unique : (v : Verdict) (a b : Answer) → Answers v a → Answers v b → a ≡ b
+answers-unique v a b p q = made (p .number ∙ sym (q .number)) (p .stream ∙ sym (q .stream)) (p .hops ∙ sym (q .hops))
+  where
+    made : {n s n′ s′ : ℕ} {f f′ : ℤ} → n ≡ n′ → s ≡ s′ → f ≡ f′ → _≡_ {A = Answer} (record { number = n; stream = s; hops = f }) (record { number = n′; stream = s′; hops = f′ })
+    made e g h = rw (e, g, h)

@@ -1,11 +1,9 @@
--- The verdict on job bytes ('1 to 8 first'), and the room count: 'R, or the refusals 1 to 12'.
+-- The verdict on job bytes, and the room count: 'Verdict and room count use 1 to 12'.
 use mathlib.Core.Path.{_≡_}
-use mathlib.Core.Logic.{_⊎_}
 use mathlib.Core.List.{List}
 use Prim.Native.Nat.{ℕ}
 use Rattle.job.specs.declared.Job.{Job}
-use Rattle.reader.specs.Reading.{Reads}
-use Rattle.reader.specs.declared.Reply.the-variants as Reply
+use Rattle.reader.specs.Reading.{OfBytes}
 use Rattle.verdict.specs.Replies.{Says}
 use Rattle.verdict.specs.declared.Verdict.{Verdict}
 use Rattle.verdict.specs.declared.Verdict.the-variants.{Accepted, Limit, Precedence, Hop, Cell, Link}
@@ -14,7 +12,7 @@ use Rattle.verdict.specs.declared.bytes.Room.the-variants.{Places, Refus
 
 -- v is the verdict on the bytes: the reader's refusal, or the verdict on the job that they are
 abbrev pub SaysOf : List ℕ → Verdict → Type 0
-SaysOf s v = ((r : ℕ) × Reads s (Reply.Refused r) × (v ≡ Limit r)) ⊎ ((j : Job) × Reads s (Reply.Job j) × Says j v)
+SaysOf s v = OfBytes s (λ (number : ℕ). v ≡ Limit number) (λ (j : Job). Says j v)
 
 -- the room of a verdict
 abbrev pub roomOf : Verdict → Room

@@ -1,5 +1,5 @@
 -- A job and the lent bytes have one reply and one outcome; and what is left of the lent bytes, said by places.
-use mathlib.Core.Path.{_≡_, refl, sym, ap, _∙_}
+use mathlib.Core.Path.{_≡_, refl, sym, ap, _∙_, ap₂}
 use mathlib.Core.List.{List}
 use Prim.Native.Nat.{ℕ}
 use native.Mathlib.Omega.{arith}
@@ -13,7 +13,8 @@ use Rattle.layout.specs.Layout.{fileOf}
 use Rattle.layout.proofs.Injective.{file-length}
 use Rattle.writer.specs.declared.Wrote.{Wrote}
 use Rattle.writer.specs.declared.Wrote.the-variants.{Total, Refused, Short}
-use Rattle.writer.specs.Writing.{Writes}
+use Rattle.writer.specs.Writing.{Writes, Answers}
+use Rattle.writer.specs.declared.Answer.{Answer}
 
 -- an acceptable job is not refused by a limit
 kept : (j : Job) (r : ℕ) → Acceptable j → First (limits j) r → r ≡ 0
@@ -45,3 +46,7 @@ pub unwritten : (j : Job) (before after : List ℕ) (r : Wrote) → Writes j bef
 unwritten j before after (Total t) w n = absurd (n t refl)
 unwritten j before after (Refused r) w n = w .2
 unwritten j before after (Short t) w n = w .3
+
+-- one answer in numbers
+pub answers-unique : (w : Wrote) (a b : Answer) → Answers w a → Answers w b → a ≡ b
+answers-unique w a b p q = ap₂ (λ (n t : ℕ). record { number = n; total = t }) (p .number ∙ sym (q .number)) (p .total ∙ sym (q .total))

@@ -75,7 +75,7 @@ all-ticks-requires c κs =
     let s = says (b .before .before .before .before) in
     let p = taken b .0 in
     let t = tables-tabled s p (c .before .before .before .before .before .before .before .before .before .before .frame-of .ensures) refl refl in
-    (t .0, t .1, places-roomy s p (ap length (c .before .before .before .before .before .clear .ensures) ∙ clear-size (now (a .places)) (b .before .before .before .before .before .v .given .0 .0 .room) (roomy b)), c .before .before .before .before .before .before .before .before .fill-timetable .ensures)
+    (t .0, t .1, places-roomy s p (ap length (c .before .before .before .before .before .clear .ensures) ∙ clear-size (now (a .places)) (b .before .before .before .before .before .v .given .0 .0 .room) (roomy b)), c .before .before .before .before .before .before .before .before .fill-timetable .ensures .0)
 
 same-length : tie.Need-same-length
 same-length c = search needs

@@ -69,7 +69,7 @@ one-tick-requires c κs =
     let s = says (c .before .before .before .before .before .before .before .before .before .before .before .before) in
     let p = taken (c .before .before .before .before .before .before .before .before) .0 in
     let t = tables-tabled s p (c .before .before .before .before .before .before .frame-of .ensures) refl refl in
-    (t .0, t .1, places-roomy s p refl, c .before .before .before .before .fill-timetable .ensures)
+    (t .0, t .1, places-roomy s p refl, c .before .before .before .before .fill-timetable .ensures .0)
 
 same-length : tie.Need-same-length
 same-length c = search needs

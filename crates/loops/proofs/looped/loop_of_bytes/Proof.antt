@@ -19,7 +19,7 @@ loop-of-requires : tie.Need-loop-of-requires
 loop-of-requires c κs = search needs
 
 returns : tie.Need-returns
-returns c = inl (_, subst (Reads _) (c .before .read2 .given .1) (c .before .before .before .read .ensures), refl, refl)
+returns c = inl (_, subst (Reads _) (c .before .read2 .given .1) (c .before .before .before .read .ensures), (refl, refl))
 
 same-length : tie.Need-same-length
 same-length c = search needs

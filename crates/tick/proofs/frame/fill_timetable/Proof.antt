@@ -1,8 +1,9 @@
 -- The first k ticks are written, and p is the point at k. The measure is what is left of the points.
 use mathlib.Core.Path.{_≡_, refl, _∙_}
-use Prim.Native.Nat.{_-_, _<_, _≤_}
+use Prim.Native.Nat.{ℕ, _-_, _<_, _≤_}
 use native.Mathlib.Omega.{arith}
-use lib.ListN.{length, length-set}
+use lib.ListN.{length, getD, length-set}
+use lib.Seq.{getD-set-other}
 use Rattle.space.specs.Vectors.{entries}
 use Rattle.boxes.specs.Boxes.{pointOf, PointAt}
 use Rattle.mapping.specs.Mapping.{box}
@@ -14,7 +15,7 @@ use Rattle.tick.proofs.frame.fill_timetable.Statement.{statement}
 use Rattle.tick.proofs.frame.fill_timetable.Tie as tie
 
 abbrev Inv-loop : tie.InvT-loop
-Inv-loop j f timetable₀ points b p₀ k₀ timetable p k = Timed j k timetable × (length timetable ≡ length timetable₀) × (k ≤ points) × PointAt (box j) k (entries p)
+Inv-loop j f timetable₀ points b p₀ k₀ timetable p k = Timed j k timetable × (length timetable ≡ length timetable₀) × (k ≤ points) × PointAt (box j) k (entries p) × ((i : ℕ) → pointsOf j ≤ i → getD timetable i 0 ≡ getD timetable₀ i 0)
 
 abbrev μ-loop : tie.MeasureT-loop
 μ-loop j f timetable₀ points b p₀ k₀ timetable p k = points - k
@@ -25,7 +26,7 @@ point-requires c κs =
     (w .0, w .1, some-point (c .before .before .pre .0))
 
 loop-holds : tie.Need-loop-holds Inv-loop μ-loop
-loop-holds c = (record { size = c .before .before .before .pre .2; ticks = λ k h. absurd (omega arith) }, refl, omega arith, λ h. c .point .ensures)
+loop-holds c = (record { size = c .before .before .before .pre .2; ticks = λ k h. absurd (omega arith) }, refl, omega arith, (λ h. c .point .ensures), λ i h. refl)
 
 -- k is a place, and p is the point there
 below : (c : tie.In-loop Inv-loop μ-loop) → c .before .loop .k < pointsOf (c .before .before .before .before .before .args .j)
@@ -61,6 +62,7 @@ loop-again c =
       length-set (l .timetable) (l .k) (c .before .tick-at .result) ∙ l .inv .1,
       omega (arith, c .before .before .loop-test .taken),
       c .next .ensures (l .k) (stands (c .before .before)),
+      λ i h. getD-set-other (l .timetable) (l .k) i (c .before .tick-at .result) 0 (λ e. omega (arith, below (c .before .before))) ∙ l .inv .4 i h,
     )
 
 same-length : tie.Need-same-length Inv-loop μ-loop
@@ -70,7 +72,7 @@ returns : tie.Need-returns Inv-loop μ-loop
 returns c =
     let l = c .before .loop in
     let e : l .k ≡ pointsOf (c .before .before .before .before .before .args .j) = omega (arith, c .loop-test .left, l .inv .2, c .before .before .before .before .before .pre .1 .points) in
-    rw e at (l .inv .0)
+    (rw e at (l .inv .0), (l .inv .1, l .inv .4))
 
 pub fill-timetable-spec : {M : Type 1} → statement M
 fill-timetable-spec =
