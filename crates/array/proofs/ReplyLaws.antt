@@ -20,14 +20,15 @@ use Rattle.verdict.specs.declared.Verdict.{Verdict}
 use Rattle.verdict.proofs.Verdict.{the-type}
 use Rattle.verdict.specs.declared.Verdict.the-variants.{Accepted, Limit, Precedence, Hop, Cell, Link}
 use Rattle.loops.specs.Tables.{points}
-use Rattle.tick.specs.declared.frame.Frame.{Frame}
+use Rattle.frame.specs.declared.Frame.{Frame}
 use Rattle.array.specs.declared.Reply.{Reply}
 use Rattle.array.specs.declared.Reply.the-variants.{Ticks, Refused, Tables, Large, Few, Late}
 use Rattle.array.specs.Runs.{runChecks, tickChecks, Replies}
-use Rattle.tick.specs.Steps.{AllAhead, Runnable, Framed, Tabled, Roomy}
+use Rattle.tick.specs.Steps.{Runnable, Tabled, Roomy}
+use Rattle.frame.specs.Framing.{AllAhead, Framed}
 use Rattle.array.specs.Lacking.{Lacks}
 use Rattle.array.proofs.Reply.{the-type as reply-type}
-use Rattle.tick.proofs.FrameLaws.{sizes-room}
+use Rattle.frame.proofs.FrameLaws.{sizes-room}
 
 -- ---- the verdict
 -- a verdict that is not the first variant has a number

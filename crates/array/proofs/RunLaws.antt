@@ -7,7 +7,7 @@ use native.Mathlib.Omega.{arith}
 use lib.ListN.{length, getD, set, drop, replicate, length-replicate, length-append, length-drop}
 use lib.Seq.{drop-cons, set-at}
 use Rattle.job.specs.declared.Job.{Job}
-use Rattle.tick.specs.declared.frame.Frame.{Frame}
+use Rattle.frame.specs.declared.Frame.{Frame}
 use Rattle.tick.specs.Ticks.{Ticked}
 use Rattle.array.specs.Runs.{Ran, cleared}
 use Rattle.array.specs.Runs.Ran.{ready, ticked}

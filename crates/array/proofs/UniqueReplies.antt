@@ -1,21 +1,18 @@
--- Two replies that meet one statement are equal: of a run, a single tick and a look-up, on a job and on bytes.
+-- Two replies that meet one statement are equal: of a run and a single tick, on a job and on bytes.
 use mathlib.Core.Path.{_≡_, refl, sym, ap, ap₂, subst, _∙_}
 use mathlib.Core.Logic.{_⊎_, inl, inr}
 use mathlib.Core.Bool.{cond}
 use mathlib.Core.List.{List}
-use mathlib.Core.Option.{Option, none, some}
+use mathlib.Core.Option.{some}
 use Prim.Native.Nat.{ℕ, _<_}
 use native.Mathlib.Decide.{ℕ-discrete}
 use native.Mathlib.Omega.{arith}
 use lib.Dec.{eqb}
 use lib.ListN.{length}
-use Rattle.boxes.specs.Boxes.{pointOf}
-use Rattle.space.proofs.VectorLaws.{vector-of}
 use Rattle.job.specs.declared.Job.{Job}
 use Rattle.job.specs.Refusals.{Checks, done, check, First}
 use Rattle.job.proofs.Refusing.{first-unique, then-passed}
 use Rattle.reader.proofs.Theorems.{of-bytes-unique}
-use Rattle.mapping.specs.Mapping.{box}
 use Rattle.verdict.specs.Replies.{Says, numberOf as numberIn}
 use Rattle.verdict.specs.declared.Size.{Size}
 use Rattle.verdict.specs.declared.Verdict.{Verdict}
@@ -23,13 +20,9 @@ use Rattle.verdict.specs.declared.Verdict.the-variants.{Accepted, Limit}
 use Rattle.verdict.proofs.Unique.{says-unique}
 use Rattle.array.specs.declared.Reply.{Reply}
 use Rattle.array.specs.declared.Reply.the-variants.{Ticks, Refused, Tables, Large, Few, Late}
-use Rattle.array.specs.declared.lookup.Worked.{Worked}
-use Rattle.array.specs.declared.lookup.Worked.the-variants as Look
-use Rattle.tick.specs.Frames.{ticks, room}
+use Rattle.frame.specs.Frames.{ticks, room}
 use Rattle.tick.specs.Ticks.{Ticked}
-use Rattle.array.specs.Runs.{Ran, cleared, Answers}
-use Rattle.array.specs.Runs.{runChecks, tickChecks, numberOf, Stands, Replies, Runs, Steps, RepliesOf}
-use Rattle.array.specs.Lookups.{Looks, LooksOf}
+use Rattle.array.specs.Runs.{Ran, cleared, Answers, runChecks, tickChecks, numberOf, Stands, Replies, Runs, Steps, RepliesOf}
 use Rattle.array.proofs.ReplyLaws.{accepted-runs, passed}
 use Rattle.array.proofs.UniqueTicks.{ticked-unique, ran-unique}
 use Rattle.array.specs.declared.Answer.{Answer}
@@ -68,7 +61,7 @@ sizes-same : (j : Job) (z z′ : Size) → Says j (Accepted z) → Says j (Accep
 sizes-same j z z′ p q = let e = says-unique j (Accepted z) (Accepted z′) p q in cc
 
 -- an accepted job has no refusal
-no-refusal : (j : Job) (z : Size) (v : Verdict) → Says j (Accepted z) → Says j v → (numberIn v ≡ 0 → ⊥) → ⊥
+pub no-refusal : (j : Job) (z : Size) (v : Verdict) → Says j (Accepted z) → Says j v → (numberIn v ≡ 0 → ⊥) → ⊥
 no-refusal j z v p q ne = ne (ap numberIn (says-unique j v (Accepted z) q p))
 
 -- replies by the same checks are the same, and so is what follows from what was done, or from nothing altered
@@ -128,32 +121,7 @@ module _ (j : Job) (input values places v p v′ p′ : List ℕ) (r r′ : Repl
           let e = ticked-unique j (accepted-runs s (q .2)) input t places values p v p′ v′ (q .1) a b in
           (e .1, e .0)
 
--- ---- look-ups
--- something is not nothing
-clash : {k : ℕ} {o : Option ℕ} → o ≡ some k → o ≡ none → ⊥
-clash p q = let z : _≡_ {A = ℕ} 0 1 = cc in omega arith
-
--- it is one number
-same-some : {k n : ℕ} {o : Option ℕ} → o ≡ some k → o ≡ some n → k ≡ n
-same-some p q = cc
-
--- at most one reply of a look-up is right
-pub looks-unique : (j : Job) (t x : ℕ) (r r′ : Worked) → Looks j t x r → Looks j t x r′ → r ≡ r′
-looks-unique j t x (Look.At u) (Look.At v) a b = ap Look.At (vector-of (a .2 .2 ∙ ap (pointOf (box j)) (same-some (a .2 .1) (b .2 .1)) ∙ sym (b .2 .2)))
-looks-unique j t x (Look.At u) Look.Nowhere a b = absurd (clash (a .2 .1) (b .2))
-looks-unique j t x (Look.At u) (Look.Refused v) a b = absurd (no-refusal j (a .0) v (a .1) (b .0) (b .1))
-looks-unique j t x Look.Nowhere (Look.At u) a b = absurd (clash (b .2 .1) (a .2))
-looks-unique j t x Look.Nowhere Look.Nowhere a b = refl
-looks-unique j t x Look.Nowhere (Look.Refused v) a b = absurd (no-refusal j (a .0) v (a .1) (b .0) (b .1))
-looks-unique j t x (Look.Refused u) (Look.At v) a b = absurd (no-refusal j (b .0) u (b .1) (a .0) (a .1))
-looks-unique j t x (Look.Refused u) Look.Nowhere a b = absurd (no-refusal j (b .0) u (b .1) (a .0) (a .1))
-looks-unique j t x (Look.Refused u) (Look.Refused v) a b = ap Look.Refused (says-unique j u v (a .0) (b .0))
-
--- ---- bytes
--- at most one reply of a look-up on bytes is right
-pub looks-of-unique : (s : List ℕ) (t x : ℕ) (r r′ : Worked) → LooksOf s t x r → LooksOf s t x r′ → r ≡ r′
-looks-of-unique s t x r r′ a b = of-bytes-unique s (λ n e f. e ∙ sym f) (λ j. looks-unique j t x r r′) a b
-
+-- ---- on bytes
 module _ (s input values places v p v′ p′ : List ℕ) (r r′ : Reply) where
   -- of a refused number
   unread : (n : ℕ) → (r ≡ Refused (Limit n)) × ((v ≡ values) × (p ≡ places)) → (r′ ≡ Refused (Limit n)) × ((v′ ≡ values) × (p′ ≡ places)) → (r ≡ r′) × (v ≡ v′) × (p ≡ p′)

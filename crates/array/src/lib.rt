@@ -1,8 +1,7 @@
 // The array: one tick, and a run of all ticks.
-pub mod lookup;
 
+use frame::Frame;
 use job::Job;
-use tick::frame::Frame;
 use verdict::Size;
 use verdict::Verdict;
 ghost use mathlib.Core.Path.{_≡_};
@@ -11,9 +10,9 @@ ghost use lib.ListN.{length};
 ghost use Rattle.job.specs.Limits.{Acceptable};
 ghost use Rattle.job.specs.declared.Job.{Job};
 ghost use Rattle.loops.specs.Tables.{points as pointsOf};
-ghost use Rattle.array.specs.Runs.{Ran, cleared};
-ghost use Rattle.array.specs.Runs.{Answers, Runs, Steps, RepliesOf, runChecks};
-ghost use Rattle.tick.specs.Steps.{Tabled, Roomy, Timed};
+ghost use Rattle.array.specs.Runs.{Ran, cleared, Answers, Runs, Steps, RepliesOf, runChecks};
+ghost use Rattle.tick.specs.Steps.{Tabled, Roomy};
+ghost use Rattle.frame.specs.Framing.{Timed};
 ghost use Rattle.array.specs.Lacking.{Lacks};
 
 // What a run or a tick answers: the tick count; the verdict's refusal; 13; 14 and 15 with R; 16.
@@ -79,9 +78,9 @@ pub fn run_of(j: Job, input: &[u32], values: &mut [u32], places: &mut [u32]) -> 
     let Reply::Ticks(ticks) = reply else {
         return reply;
     };
-    let f = tick::frame::frame_of(j);
+    let f = frame::frame_of(j);
     let mut timetable = [0u64; 1024];
-    tick::frame::fill_timetable(j, f, &mut timetable[..]);
+    frame::fill_timetable(j, f, &mut timetable[..]);
     clear(&mut places[..], size.room as usize);
     all_ticks(
         j,
@@ -110,9 +109,9 @@ pub fn tick_of(j: Job, t: u64, input: &[u32], values: &mut [u32], places: &mut [
     if ticks <= t {
         return Reply::Late;
     }
-    let f = tick::frame::frame_of(j);
+    let f = frame::frame_of(j);
     let mut timetable = [0u64; 1024];
-    tick::frame::fill_timetable(j, f, &mut timetable[..]);
+    frame::fill_timetable(j, f, &mut timetable[..]);
     tick::one_tick(
         j,
         f,

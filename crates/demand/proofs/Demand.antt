@@ -11,10 +11,10 @@ use Rattle.verdict.specs.declared.Size.{Size}
 use Rattle.verdict.specs.declared.Verdict.the-variants.{Accepted}
 use Rattle.loops.specs.Tables.{points, entryFor}
 use Rattle.loops.specs.Loops.{Looped, incoming as loopIncoming}
-use Rattle.tick.specs.Frames.{cells, ticks, tickOf, cellOf, held}
+use Rattle.frame.specs.Frames.{cells, ticks, tickOf, cellOf, held}
 use Rattle.tick.specs.Ticks.{pointAt, incoming as arrayIncoming}
 use Rattle.array.specs.Runs.{Ran}
-use Rattle.tick.proofs.FrameLaws.{tick-below, cell-below}
+use Rattle.frame.proofs.FrameLaws.{tick-below, cell-below}
 use Rattle.demand.specs.Machine.{incoming, taken}
 use Rattle.demand.proofs.Mapped as Core
 use Rattle.demand.specs.Rules.{Obeys}

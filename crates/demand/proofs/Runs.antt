@@ -12,9 +12,9 @@ use Rattle.boxes.specs.Boxes.{backOf, given}
 use Rattle.job.specs.declared.Job.{Job}
 use Rattle.mapping.specs.Mapping.{hop}
 use Rattle.loops.specs.Tables.{points, entryFor}
-use Rattle.loops.specs.Cells.{work}
+use Rattle.cell.specs.Cells.{work}
 use Rattle.loops.specs.Loops.{previous, Looped, incoming as loopIncoming}
-use Rattle.tick.specs.Frames.{rectangle, held}
+use Rattle.frame.specs.Frames.{rectangle, held}
 use Rattle.tick.specs.Ticks.{pointAt, Ticked as ArrayTicked, arrival as arrayArrival, incoming as arrayIncoming, fresh as arrayFresh, stored as arrayStored}
 use Rattle.array.specs.Runs.{Ran}
 use Rattle.array.specs.Runs.Ran.{ready, ticked}

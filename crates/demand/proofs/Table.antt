@@ -11,7 +11,7 @@ use Rattle.verdict.specs.declared.Verdict.{Verdict}
 use Rattle.verdict.specs.declared.Verdict.the-variants.{Accepted}
 use Rattle.decisions.proofs.Answer.{answer}
 use Rattle.loops.specs.Tables.{entryFor}
-use Rattle.loops.specs.Cells.{ruled, work}
+use Rattle.cell.specs.Cells.{ruled, work}
 use Rattle.loops.specs.Loops.{incoming}
 use Rattle.demand.proofs.Demand.{demand-3}
 use Rattle.demand.specs.SmallJobs.{squares, Reply, Line, table, Leaves, Fulfils, Holds, All}

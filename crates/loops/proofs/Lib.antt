@@ -1,4 +1,3 @@
-pub mod Ruling
 pub mod LoopLaws
 pub mod LoopUnique
 pub mod RowLaws

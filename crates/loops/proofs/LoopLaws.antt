@@ -24,7 +24,7 @@ use Rattle.job.proofs.Accepting.{stream-sound}
 use Rattle.mapping.specs.Mapping.{box, stream, along}
 use Rattle.mapping.proofs.Fits.{low-sized, high-sized, solid}
 use Rattle.loops.specs.Tables.{points, entryFor}
-use Rattle.loops.specs.Cells.{ruled, work}
+use Rattle.cell.specs.Cells.{ruled, work}
 use Rattle.loops.specs.Loops.{previous, incoming, Looped, loopChecks}
 use Rattle.loops.specs.Steps.{Column}
 use Rattle.space.proofs.Rows.{spots}

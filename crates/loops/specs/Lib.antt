@@ -1,5 +1,4 @@
 pub mod Tables
-pub mod Cells
 pub mod Loops
 pub mod LoopBytes
 pub mod Steps

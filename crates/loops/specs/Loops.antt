@@ -10,7 +10,7 @@ use Rattle.job.specs.Refusals.{Checks, done, check, First, andThen}
 use Rattle.job.specs.Limits.{limits}
 use Rattle.mapping.specs.Mapping.{box, along}
 use Rattle.loops.specs.Tables.{points, Long, entryFor}
-use Rattle.loops.specs.Cells.{work}
+use Rattle.cell.specs.Cells.{work}
 use Rattle.loops.specs.declared.looped.Reply.{Reply}
 use Rattle.loops.specs.declared.looped.Reply.the-variants.{Points, Refused}
 

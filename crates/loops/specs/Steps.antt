@@ -6,7 +6,7 @@ use lib.ListN.{length, getD}
 use Rattle.job.specs.declared.Job.{Job}
 use Rattle.job.specs.Limits.{Acceptable}
 use Rattle.loops.specs.Tables.{points, entryFor}
-use Rattle.loops.specs.Cells.{work}
+use Rattle.cell.specs.Cells.{work}
 
 -- the job is acceptable, n is its point count, and the table has a column for each point
 pub record Ready (j : Job) (table : List ℕ) (n : ℕ) : Type 0 where

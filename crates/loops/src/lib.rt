@@ -1,4 +1,3 @@
 // The plain loop nest of a job: the cell rules, the loop, and one stream's row of a table.
-mod cell;
 pub mod looped;
 pub mod row;

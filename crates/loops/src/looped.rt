@@ -113,7 +113,7 @@ pub fn put_column(j: Job, values: &mut [u32], points: u64, k: u64, got: [u32; 4]
     let mut s: u8 = 0;
     while s < m {
         let t = job::stream_at(j, s);
-        let v = crate::cell::new_value(t, s as usize, got);
+        let v = cell::new_value(t, s as usize, got);
         let i = place_in_table(s, points, k);
         values[i] = v;
         s += 1;

@@ -10,9 +10,10 @@ use Rattle.verdict.specs.declared.bytes.Room.the-variants as Room
 use Rattle.verdict.proofs.UniqueBytes.{says-of-unique, counts-unique}
 use Rattle.array.specs.Runs.{numberOf as numberIn, countIn}
 use Rattle.array.specs.declared.Reply.{Reply as RunReply}
-use Rattle.array.specs.declared.lookup.Worked.{Worked as Lookup}
-use Rattle.array.specs.declared.lookup.Worked.the-variants as Lookup
-use Rattle.array.proofs.UniqueReplies.{runs-of-unique, steps-of-unique, looks-of-unique}
+use Rattle.lookup.specs.declared.Worked.{Worked as Lookup}
+use Rattle.lookup.specs.declared.Worked.the-variants as Lookup
+use Rattle.array.proofs.UniqueReplies.{runs-of-unique, steps-of-unique}
+use Rattle.lookup.proofs.Unique.{looks-of-unique}
 use Rattle.loops.specs.declared.looped.Reply.{Reply as LoopReply}
 use Rattle.loops.specs.declared.looped.Reply.the-variants as Loop
 use Rattle.loops.proofs.LoopUnique.{loops-of-unique}

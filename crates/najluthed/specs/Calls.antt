@@ -13,10 +13,10 @@ use Rattle.loops.specs.LoopBytes.{LoopsOf}
 use Rattle.loops.specs.declared.looped.Reply.{Reply as LoopReply}
 use Rattle.loops.specs.declared.looped.Reply.the-variants as Loop
 use Rattle.array.specs.Runs.{Runs, Steps, RepliesOf, numberOf as numberIn, countIn}
-use Rattle.array.specs.Lookups.{LooksOf}
+use Rattle.lookup.specs.Lookups.{LooksOf}
 use Rattle.array.specs.declared.Reply.{Reply as RunReply}
-use Rattle.array.specs.declared.lookup.Worked.{Worked as Lookup}
-use Rattle.array.specs.declared.lookup.Worked.the-variants as Lookup
+use Rattle.lookup.specs.declared.Worked.{Worked as Lookup}
+use Rattle.lookup.specs.declared.Worked.the-variants as Lookup
 use Rattle.najluthed.specs.declared.Reply.{Reply}
 use Rattle.najluthed.specs.declared.Done.{Done}
 use Rattle.najluthed.specs.declared.Worked.{Worked}

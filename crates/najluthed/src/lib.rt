@@ -125,9 +125,9 @@ pub extern "C" fn najluthed_loop(job: &[u8], input: &[u32], values: &mut [u32]) 
 pub extern "C" fn najluthed_point(job: &[u8], tick: u64, cell: u64) -> Worked
     ensures { λ a. ⌜ AnswersPoint (now (job .entry)) tick cell a ⌝ }
 {
-    let worked = array::lookup::point_at_bytes(job, tick, cell);
+    let worked = lookup::point_at_bytes(job, tick, cell);
     match worked {
-        array::lookup::Worked::At(p) => Worked {
+        lookup::Worked::At(p) => Worked {
             number: 0,
             found: 1,
             x0: p.x0,
@@ -135,7 +135,7 @@ pub extern "C" fn najluthed_point(job: &[u8], tick: u64, cell: u64) -> Worked
             x2: p.x2,
             x3: p.x3,
         },
-        array::lookup::Worked::Nowhere => Worked {
+        lookup::Worked::Nowhere => Worked {
             number: 0,
             found: 0,
             x0: 0,
@@ -143,7 +143,7 @@ pub extern "C" fn najluthed_point(job: &[u8], tick: u64, cell: u64) -> Worked
             x2: 0,
             x3: 0,
         },
-        array::lookup::Worked::Refused(v) => {
+        lookup::Worked::Refused(v) => {
             let refused = verdict::numbers::answer_of(v);
             Worked {
                 number: wide(refused.number),

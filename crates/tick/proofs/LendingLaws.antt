@@ -22,11 +22,12 @@ use Rattle.mapping.proofs.Fits.{row0-sized, row1-sized}
 use Rattle.mapping.proofs.Meetings.{unit-sized}
 use Rattle.bands.specs.Bands.{rectangleOf, at, arrivalIn, Shaped, Lent}
 use Rattle.bands.specs.declared.Band.{Band}
-use Rattle.tick.specs.Frames.{rectangle, cells, w, from}
+use Rattle.frame.specs.Frames.{rectangle, cells, w, from}
 use Rattle.tick.specs.Ticks.{arrival}
-use Rattle.tick.specs.Steps.{Runnable, Banded, bandAt, Framed, Roomy, Band-lent}
-use Rattle.tick.specs.declared.frame.Frame.{Frame}
-use Rattle.tick.proofs.FrameLaws.{small-ends, rectangle-solid}
+use Rattle.tick.specs.Steps.{Runnable, Roomy, Band-lent}
+use Rattle.frame.specs.Framing.{Banded, bandAt, Framed}
+use Rattle.frame.specs.declared.Frame.{Frame}
+use Rattle.frame.proofs.FrameLaws.{small-ends, rectangle-solid}
 use Rattle.tick.proofs.RoomLaws.{from-next, delay-some, band-in, band-few, cells-few, part-at}
 
 -- ---- the shape of a band

@@ -1,4 +1,3 @@
-pub mod FrameLaws
 pub mod RoomLaws
 pub mod LendingLaws
 pub mod WorkLaws

@@ -18,9 +18,10 @@ use Rattle.bands.specs.Bands.{rectangleOf, at, arrivalIn, Shifted}
 use Rattle.bands.specs.declared.Band.{Band}
 use Rattle.bands.proofs.BandLaws.{its-place}
 use Rattle.loops.specs.Tables.{points, entryFor}
-use Rattle.tick.specs.Frames.{rectangle, cells, tickOf, cellOf, w, from, held}
+use Rattle.frame.specs.Frames.{rectangle, cells, tickOf, cellOf, w, from, held}
 use Rattle.tick.specs.Ticks.{lastOf, works, arrival}
-use Rattle.tick.specs.Steps.{Runnable, Banded, Roomy, Band-lent, Slot, putOne, workedOr, Stored}
+use Rattle.tick.specs.Steps.{Runnable, Roomy, Band-lent, Slot, putOne, workedOr, Stored}
+use Rattle.frame.specs.Framing.{Banded}
 use Rattle.tick.proofs.RoomLaws.{from-among, delay-some, part-at}
 use Rattle.tick.proofs.LendingLaws.{part-size, from-first, band-fits, band-next, arrives}
 use Rattle.space.proofs.Rows.{spots}

@@ -1,29 +1,22 @@
 -- What a tick asks for and what its steps leave; contracts of functions that serve the array cite these.
 use mathlib.Core.Path.{_≡_}
 use mathlib.Core.Bool.{cond}
-use mathlib.Core.List.{List, [], _∷_}
+use mathlib.Core.List.{List}
 use Prim.Native.Nat.{ℕ, _*_, _%_, _<_, _≤_}
-use lib.ListN.{length, getD, drop}
-use lib.IntN.{ℤ}
+use lib.ListN.{length, drop}
 use Rattle.space.specs.Numbers.{roomLimit}
-use Rattle.space.specs.Vectors.{entries}
-use Rattle.boxes.specs.Boxes.{Box, across, leastOf, greatestOf, given}
+use Rattle.boxes.specs.Boxes.{given}
 use Rattle.job.specs.declared.Job.{Job}
 use Rattle.job.specs.Limits.{Acceptable}
-use Rattle.mapping.specs.Mapping.{box, hop}
-use Rattle.verdict.specs.Rules.{Ahead, Even}
-use Rattle.bands.specs.Bands.{rectangleOf, hopOf, at, Lent}
+use Rattle.mapping.specs.Mapping.{hop}
+use Rattle.verdict.specs.Rules.{Even}
+use Rattle.bands.specs.Bands.{at, Lent}
 use Rattle.bands.specs.declared.Band.{Band}
 use Rattle.loops.specs.Tables.{points, entryFor}
-use Rattle.tick.specs.Frames.{reach, rectangle, cells, clock, ticks, tickOf, cellOf, w, from, room, held}
+use Rattle.frame.specs.Frames.{cells, tickOf, cellOf, w, from, room, held}
 use Rattle.tick.specs.Ticks.{lastOf, works, arrival, fresh}
-use Rattle.tick.specs.declared.frame.Frame.{Frame}
-use Rattle.tick.specs.declared.frame.Bands.{Bands}
-use Rattle.tick.specs.declared.frame.Reach.{Reach}
-
--- precedence over all streams
-abbrev pub AllAhead : Job → Type 0
-AllAhead j = (s : ℕ) → s < j .m → Ahead j s
+use Rattle.frame.specs.declared.Frame.{Frame}
+use Rattle.frame.specs.Framing.{AllAhead, Banded, Framed}
 
 -- what a job that may run has: it keeps the limits, precedence and hop, and its room is inside the size limit
 pub record Runnable (j : Job) : Type 0 where
@@ -31,39 +24,6 @@ pub record Runnable (j : Job) : Type 0 where
   pub ahead : AllAhead j
   pub even : (s : ℕ) → s < j .m → Even j s
   pub few : room j ≤ roomLimit
-
--- r is the reach of a row over the box
-pub record Reaches (h : List ℤ) (B : Box) (r : Reach) : Type 0 where
-  pub low : r .low ≡ leastOf h B
-  pub high : r .high ≡ greatestOf h B
-  pub count : r .count ≡ across (reach h B)
-
--- b is the shape of the band of stream s
-pub record Banded (j : Job) (s : ℕ) (b : Band) : Type 0 where
-  pub rectangle : rectangleOf b ≡ rectangle j
-  pub hop : hopOf b ≡ hop j s
-  pub delay : b .w ≡ w j s
-
-abbrev pub bandAt : Bands → ℕ → Band
-bandAt bands s = getD (bands .band0 ∷ bands .band1 ∷ bands .band2 ∷ bands .band3 ∷ []) s (bands .band0)
-
-abbrev pub AllBanded : Job → Bands → Type 0
-AllBanded j bands = (s : ℕ) → s < j .m → Banded j s (bandAt bands s)
-
--- f holds the numbers of the job's array
-pub record Framed (j : Job) (f : Frame) : Type 0 where
-  pub points : f .points ≡ points j
-  pub start : f .start ≡ clock j .low
-  pub low0 : f .low0 ≡ leastOf (entries (j .row0)) (box j)
-  pub low1 : f .low1 ≡ leastOf (entries (j .row1)) (box j)
-  pub columns : f .columns ≡ across (reach (entries (j .row1)) (box j))
-  pub cells : f .cells ≡ cells j
-  pub bands : AllBanded j (f .bands)
-
--- the first n entries of a timetable are the ticks of the first n points
-pub record Timed (j : Job) (n : ℕ) (timetable : List ℕ) : Type 0 where
-  pub size : points j ≤ length timetable
-  pub ticks : (k : ℕ) → k < n → getD timetable k 0 ≡ tickOf j k
 
 -- a job that may run with its frame, and a table with a column for each point
 pub record Tabled (j : Job) (f : Frame) (table : List ℕ) : Type 0 where

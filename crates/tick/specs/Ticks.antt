@@ -10,9 +10,9 @@ use Rattle.boxes.specs.Boxes.{backOf, given}
 use Rattle.job.specs.declared.Job.{Job}
 use Rattle.mapping.specs.Mapping.{hop}
 use Rattle.loops.specs.Tables.{points, entryFor}
-use Rattle.loops.specs.Cells.{work}
+use Rattle.cell.specs.Cells.{work}
 use Rattle.loops.specs.Loops.{previous}
-use Rattle.tick.specs.Frames.{rectangle, cells, tickOf, cellOf, w, room, held}
+use Rattle.frame.specs.Frames.{rectangle, cells, tickOf, cellOf, w, room, held}
 
 -- the last of the first n numbers that passes a test
 unfoldable pub lastOf : (ℕ → Bool) → ℕ → Option ℕ

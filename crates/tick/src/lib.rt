@@ -1,13 +1,13 @@
 // One tick of the array of a job that may run.
-pub mod frame;
 mod store;
 mod work;
 
-use crate::frame::Frame;
+use frame::Frame;
 use job::Job;
 ghost use Rattle.loops.specs.Tables.{points as pointsOf};
 ghost use Rattle.tick.specs.Ticks.{Ticked};
-ghost use Rattle.tick.specs.Steps.{Tabled, Roomy, Timed};
+ghost use Rattle.tick.specs.Steps.{Tabled, Roomy};
+ghost use Rattle.frame.specs.Framing.{Timed};
 
 // One tick: all arrivals are read, and the values of its points worked, before any place is written.
 pub fn one_tick(

@@ -1,12 +1,13 @@
 // The storing of a tick: each stream's band takes its arrivals, then the new values of the points worked.
-use crate::frame::Frame;
 use bands::Band;
+use frame::Frame;
 use job::Job;
 ghost use Prim.Native.Nat.{ℕ, _<_};
 ghost use Rattle.bands.specs.Bands.{at, arrivalIn};
 ghost use Rattle.loops.specs.Tables.{points as pointsOf};
-ghost use Rattle.tick.specs.Frames.{w};
-ghost use Rattle.tick.specs.Steps.{Tabled, Roomy, Timed, Band-lent, Slot, putOne, workedOr, Stored};
+ghost use Rattle.frame.specs.Frames.{w};
+ghost use Rattle.tick.specs.Steps.{Tabled, Roomy, Band-lent, Slot, putOne, workedOr, Stored};
+ghost use Rattle.frame.specs.Framing.{Timed};
 
 // The value of the point at place k goes to its cell, if its tick is t.
 fn put_point(
@@ -26,7 +27,7 @@ fn put_point(
 {
     let line = k as usize;
     if timetable[line] == t {
-        let x = crate::frame::cell_at(j, f, boxes::point(j.bounds, k), k);
+        let x = frame::cell_at(j, f, boxes::point(j.bounds, k), k);
         let from = loops::looped::place_in_table(s, f.points, k);
         let i = (x * b.w + slot) as usize;
         band[i] = values[from];
@@ -84,7 +85,7 @@ pub fn store(j: Job, f: Frame, timetable: &[u64], t: u64, values: &[u32], places
     let mut from = 0;
     let mut s: u8 = 0;
     while s < m {
-        let b = crate::frame::band_at(f.bands, s);
+        let b = frame::band_at(f.bands, s);
         let end = from + (f.cells * b.w) as usize;
         store_band(
             j,

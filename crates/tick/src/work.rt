@@ -1,7 +1,7 @@
 // The work of a tick: the values of its points, from places that nothing has changed yet.
-use crate::frame::Frame;
 use bands::Band;
 use boxes::Found;
+use frame::Frame;
 use job::Job;
 use space::Vector;
 ghost use mathlib.Core.Path.{_≡_};
@@ -11,9 +11,10 @@ ghost use Rattle.space.specs.Vectors.{entries};
 ghost use Rattle.boxes.specs.Boxes.{pointOf};
 ghost use Rattle.mapping.specs.Mapping.{box};
 ghost use Rattle.loops.specs.Tables.{points as pointsOf};
-ghost use Rattle.tick.specs.Frames.{tickOf, cells, from as fromOf};
+ghost use Rattle.frame.specs.Frames.{tickOf, cells, from as fromOf};
 ghost use Rattle.tick.specs.Ticks.{incoming};
-ghost use Rattle.tick.specs.Steps.{Banded, Tabled, Roomy, Timed, Point, Points};
+ghost use Rattle.tick.specs.Steps.{Tabled, Roomy, Point, Points};
+ghost use Rattle.frame.specs.Framing.{Banded, Timed};
 
 // What comes in on stream s at p, the point at place k, in cell x; the stream's band b starts at from.
 fn incoming_at(
@@ -64,7 +65,7 @@ fn incoming_all(
     let mut from = 0;
     let mut s: u8 = 0;
     while s < m {
-        let b = crate::frame::band_at(f.bands, s);
+        let b = frame::band_at(f.bands, s);
         let v = incoming_at(j, f, t, input, places, s, b, from, x, p, k);
         let i = s as usize;
         got[i] = v;
@@ -88,7 +89,7 @@ fn work_column(
     requires { ⌜ Tabled j f (now input) × Tabled j f (now values) × Roomy j (now places) × (k < pointsOf j) × (entries p ≡ pointOf (box j) k) × (tickOf j k ≡ t) ⌝ }
     ensures { λ _. ⌜ Point j (now (input .entry)) t (now (places .entry)) k (now (values .entry)) (now (values .exit)) ⌝ }
 {
-    let x = crate::frame::cell_at(j, f, p, k);
+    let x = frame::cell_at(j, f, p, k);
     let got = incoming_all(j, f, t, input, places, x, p, k);
     loops::looped::put_column(j, &mut values[..], f.points, k, got);
 }

@@ -8,10 +8,9 @@ use Rattle.verdict.specs.Replies.{Says}
 use Rattle.verdict.specs.declared.Verdict.the-variants.{Accepted}
 use Rattle.loops.proofs.LoopLaws.{few-points}
 use Rattle.array.specs.declared.Reply.the-variants.{Ticks}
-use Rattle.array.specs.Runs.{cleared}
-use Rattle.array.specs.Runs.{runChecks}
+use Rattle.array.specs.Runs.{cleared, runChecks}
 use Rattle.array.specs.Lacking.{Lacks}
-use Rattle.tick.proofs.FrameLaws.{sizes-room, sizes-ticks}
+use Rattle.frame.proofs.FrameLaws.{sizes-room, sizes-ticks}
 use Rattle.array.proofs.RunLaws.{clear-size, ran-as}
 use Rattle.array.proofs.ReplyLaws.{not-accepted, accepted-limits, accepted-frames, passed, lacks-refuses, tables-tabled, places-roomy}
 use Rattle.array.proofs.run_of.Statement.{statement}

@@ -1,7 +1,6 @@
-use mathlib.Core.Path.{sym, subst}
+use mathlib.Core.Path.{sym, subst, _≡_}
 use native.Mathlib.Omega.{arith}
 use lib.IntN.{ℤ, pos, _-ℤ_}
-use mathlib.Core.Path.{_≡_}
 use borrow.Author.Needs.{needs}
 use Rattle.space.specs.Numbers.{Size}
 use Rattle.space.proofs.Machine.{Is, held, arg, lit, sub, fit, read, as-held}

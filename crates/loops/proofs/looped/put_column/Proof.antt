@@ -6,7 +6,7 @@ use lib.ListN.{getD, set}
 use denote.Ref.{now}
 use Rattle.job.specs.declared.Stream.{Stream}
 use Rattle.loops.specs.Tables.{points}
-use Rattle.loops.specs.Cells.{ruled, work}
+use Rattle.cell.specs.Cells.{ruled, work}
 use Rattle.loops.specs.Steps.{Column}
 use Rattle.loops.proofs.LoopLaws.{few-streams, few-points, sources, entry-in, column-start, column-step}
 use Rattle.loops.proofs.looped.put_column.Statement.{statement}

@@ -4,7 +4,7 @@ use native.Mathlib.Omega.{arith}
 use lib.ListN.{length}
 use denote.Ref.{now}
 use Rattle.loops.proofs.LoopLaws.{few-streams}
-use Rattle.tick.specs.Steps.{Banded}
+use Rattle.frame.specs.Framing.{Banded}
 use Rattle.tick.proofs.LendingLaws.{band-is, band-fits, some-delay, band-lent}
 use Rattle.tick.proofs.StoreLaws.{Storing, store-start, store-step, store-end, still-roomy}
 use Rattle.tick.proofs.store.store.Statement.{statement}

@@ -5,9 +5,9 @@ use native.Mathlib.Omega.{arith}
 use lib.ListN.{length}
 use denote.Ref.{now}
 use Rattle.loops.proofs.LoopLaws.{few-streams, Firsts, firsts-step}
-use Rattle.tick.specs.Frames.{from as fromOf}
+use Rattle.frame.specs.Frames.{from as fromOf}
 use Rattle.tick.specs.Ticks.{incoming}
-use Rattle.tick.specs.Steps.{Banded}
+use Rattle.frame.specs.Framing.{Banded}
 use Rattle.tick.proofs.LendingLaws.{band-is, from-first, band-fits, band-next}
 use Rattle.tick.proofs.work.incoming_all.Statement.{statement}
 use Rattle.tick.proofs.work.incoming_all.Tie as tie

@@ -1,0 +1,148 @@
+-- Laws of the frame: every point has its tick below the tick count and its cell in the rectangle, and the sizes are those of the verdict.
+use mathlib.Core.Path.{_≡_, refl, sym, ap, ap₂, subst, _∙_}
+use mathlib.Core.List.{List}
+use Prim.Native.Nat.{ℕ, _+_, _*_, _<_, _≤_}
+use native.Mathlib.Nat.{mul-le-mul, mul-one, add-zero, le-trans, le-of-eq}
+use native.Mathlib.Decide.{ℕ-discrete}
+use native.Mathlib.Omega.{arith}
+use lib.ListN.{length, getD, set, length-set}
+use lib.Seq.{getD-set-same, getD-set-other}
+use lib.IntN.{ℤ, pos, _+ℤ_, _-ℤ_}
+use lib.Signed.{_≤ℤ_}
+use Rattle.space.specs.Numbers.{Size, limit, entry, coordinate, up, steps}
+use Rattle.space.specs.Vectors.{entries, dotOf, Sized}
+use Rattle.boxes.specs.Boxes.{Box, In, Solid, across, countOf, placeOf, pointOf, leastOf, greatestOf, Least, Greatest}
+use Rattle.space.proofs.Parts.{int, sum, difference}
+use Rattle.space.proofs.Ints.{size-up}
+use Rattle.space.proofs.Machine.{held, as-held}
+use Rattle.boxes.proofs.BoxLaws.{SidesSized, across-size, in-sized, point-in, place-below, steps-below, sides-sized}
+use Rattle.boxes.proofs.ExtremeLaws.{least-is, greatest-is, least-unique, greatest-unique, least-size}
+use Rattle.space.proofs.VectorLaws.{sized-up, dot-size}
+use Rattle.job.specs.declared.Job.{Job}
+use Rattle.job.specs.Limits.{Acceptable}
+use Rattle.mapping.specs.Mapping.{box, H, S, delays}
+use Rattle.mapping.proofs.Fits.{solid, row0-sized, row1-sized, low-sized, high-sized}
+use Rattle.verdict.specs.Rules.{Span, Sizes}
+use Rattle.verdict.specs.declared.Size.{Size as Counts}
+use Rattle.verdict.proofs.SizeLaws.{greatest-size}
+use Rattle.loops.specs.Tables.{points}
+use Rattle.frame.specs.Framing.{Timed}
+use Rattle.frame.specs.Frames.{reach, rectangle, cells, clock, ticks, tickOf, cellOf, room}
+
+-- ---- a small number that is read back
+pub held-limit : {z v : ℤ} → v ≡ z → Size limit z → held v ≡ z
+held-limit e p = as-held {b = limit} tt (subst (Size limit) (sym e) p) ∙ e
+
+pub held-is : {z v : ℤ} → v ≡ z → Size 8376324 z → held v ≡ z
+held-is e p = held-limit e (size-up (omega arith) p)
+
+-- such a number fits where the code steps from one to the other
+pub fits-limit : {z v : ℤ} → v ≡ z → Size 8376324 z → Size limit (held v)
+fits-limit e p = subst (Size limit) (sym (held-is e p)) (size-up (omega arith) p)
+
+-- ---- a row's ends are small at the largest limits of a job, and so is their distance
+pub ends-small : {h : List ℤ} {B : Box} {l u : ℤ} → length h ≡ 4 → Sized entry h → SidesSized coordinate B → Least h B l → Greatest h B u → Size 8376324 l × Size 8376324 u
+ends-small e p w L G = (rw e at (least-size coordinate p w L), rw e at (greatest-size coordinate p w G))
+
+-- a place in two rows, without the ones and zeros of the definition
+flat : (r n c : ℕ) → r * (n * 1) + (c * 1 + 0) ≡ r * n + c
+flat r n c = rw (mul-one n, mul-one c, add-zero c)
+
+module _ (j : Job) (a : Acceptable j) where
+  pub small-ends : (h : List ℤ) → length h ≡ 4 → Sized 127 h → Size 8376324 (leastOf h (box j)) × Size 8376324 (greatestOf h (box j))
+  small-ends h e p = ends-small e (sized-up (omega arith) p) (sides-sized (j .bounds) (low-sized j a) (high-sized j a)) (least-is h (box j) e (solid j a)) (greatest-is h (box j) e (solid j a))
+
+  -- ---- the ends of a row of four entries
+  pub row-least : (h : List ℤ) → length h ≡ 4 → Least h (box j) (leastOf h (box j))
+  row-least h e = least-is h (box j) e (solid j a)
+
+  pub row-greatest : (h : List ℤ) → length h ≡ 4 → Greatest h (box j) (greatestOf h (box j))
+  row-greatest h e = greatest-is h (box j) e (solid j a)
+
+  -- a point's product lies between them
+  pub between : (h : List ℤ) → length h ≡ 4 → (p : List ℤ) → In (box j) p → (leastOf h (box j) ≤ℤ dotOf h p) × (dotOf h p ≤ℤ greatestOf h (box j))
+  between h e p i = (row-least h e .below p i, row-greatest h e .above p i)
+
+  -- ---- a point's place
+  pub in-rectangle : (p : List ℤ) → In (box j) p → In (rectangle j) (S j p)
+  unfolding In
+  in-rectangle p i =
+      let r = between (entries (j .row0)) refl p i in
+      let q = between (entries (j .row1)) refl p i in
+      (r .0, r .1, (q .0, q .1, tt))
+
+  pub cell-below : (k : ℕ) → k < points j → cellOf j k < cells j
+  unfolding cellOf
+  cell-below k lk = place-below (rectangle j) (S j (pointOf (box j) k)) (in-rectangle (pointOf (box j) k) (point-in (box j) k lk))
+
+  pub tick-below : (k : ℕ) → k < points j → tickOf j k < ticks j
+  unfolding tickOf
+  tick-below k lk =
+      let q = between (entries (j .time)) refl (pointOf (box j) k) (point-in (box j) k lk) in
+      steps-below (clock j .low) (H j (pointOf (box j) k)) (clock j .high) (q .0) (q .1)
+
+  -- the rectangle has two ends in each direction
+  pub rectangle-solid : Solid (rectangle j)
+  unfolding Solid
+  rectangle-solid =
+      let r = row-least (entries (j .row0)) refl in
+      let q = row-least (entries (j .row1)) refl in
+      let g = row-greatest (entries (j .row0)) refl in
+      let h = row-greatest (entries (j .row1)) refl in
+      (subst (λ (z : ℤ). leastOf (entries (j .row0)) (box j) ≤ℤ z) (g .met .2) (r .below (g .met .0) (g .met .1)), (subst (λ (z : ℤ). leastOf (entries (j .row1)) (box j) ≤ℤ z) (h .met .2) (q .below (h .met .0) (h .met .1)), tt))
+
+  -- ---- the sizes of the verdict
+  pub span-across : (h : List ℤ) → length h ≡ 4 → (n : ℕ) → Span h (box j) n → n ≡ across (reach h (box j))
+  span-across h e n s =
+      let l = least-unique (s .least) (row-least h e) in
+      let g = greatest-unique (s .greatest) (row-greatest h e) in
+      let lo = s .low in
+      let hi = s .high in
+      let here : pos n ≡ (hi +ℤ pos 1) -ℤ lo = omega (int, s .numbers, sum (hi -ℤ lo) (pos 1), difference hi lo, sum hi (pos 1), difference (hi +ℤ pos 1) lo) in
+      ap up here ∙ ap₂ (λ (x y : ℤ). steps x (y +ℤ pos 1)) l g
+
+  pub sizes-ticks : (z : Counts) → Sizes j z → z .ticks ≡ ticks j
+  sizes-ticks z s = span-across (entries (j .time)) refl (z .ticks) (s .ticks)
+
+  pub sizes-cells : (z : Counts) → Sizes j z → z .cells ≡ cells j
+  unfolding countOf
+  sizes-cells z s =
+      let r = span-across (entries (j .row0)) refl (s .rows) (s .first) in
+      let q = span-across (entries (j .row1)) refl (s .columns) (s .second) in
+      s .cells ∙ ap₂ (λ (x y : ℕ). x * y) r (q ∙ sym (mul-one (across (reach (entries (j .row1)) (box j)))))
+
+  pub sizes-room : (z : Counts) → Sizes j z → z .room ≡ room j
+  sizes-room z s = s .room ∙ ap (λ (n : ℕ). n * delays j (j .m)) (sizes-cells z s)
+
+  -- ---- the cells of the rectangle are the product of its sides, and few
+  pub across-small : (h : List ℤ) → length h ≡ 4 → Sized 127 h → across (reach h (box j)) ≤ 16752649
+  across-small h e p = let s = small-ends h e p in across-size (reach h (box j)) (s .0) (s .1)
+
+  pub cells-are : cells j ≡ across (reach (entries (j .row0)) (box j)) * across (reach (entries (j .row1)) (box j))
+  unfolding countOf
+  cells-are = ap (λ (n : ℕ). across (reach (entries (j .row0)) (box j)) * n) (mul-one (across (reach (entries (j .row1)) (box j))))
+
+  -- ---- the points are small
+  pub point-sized : (k : ℕ) → k < points j → Sized coordinate (pointOf (box j) k)
+  point-sized k lk = in-sized coordinate (box j) (pointOf (box j) k) (sides-sized (j .bounds) (low-sized j a) (high-sized j a)) (point-in (box j) k lk)
+
+  -- and so are their products with a row
+  pub product-sized : (h : List ℤ) → length h ≡ 4 → Sized 127 h → (k : ℕ) → k < points j → Size 8376324 (dotOf h (pointOf (box j) k))
+  product-sized h e p k lk = rw e at (dot-size (sized-up {d = entry} (omega arith) p) (point-sized k lk))
+
+  -- ---- a cell is its row times the columns, and its column
+  pub cell-is : (k : ℕ) → cellOf j k ≡ steps (leastOf (entries (j .row0)) (box j)) (dotOf (entries (j .row0)) (pointOf (box j) k)) * across (reach (entries (j .row1)) (box j)) + steps (leastOf (entries (j .row1)) (box j)) (dotOf (entries (j .row1)) (pointOf (box j) k))
+  unfolding cellOf placeOf countOf
+  cell-is k = flat _ (across (reach (entries (j .row1)) (box j))) _
+
+  pub cells-small : cells j ≤ 16752649 * 16752649
+  cells-small = le-trans (le-of-eq cells-are) (mul-le-mul (across-small (entries (j .row0)) refl (row0-sized j a)) (across-small (entries (j .row1)) refl (row1-sized j a)))
+
+-- ---- the timetable
+-- one more tick is written
+pub timed-step : {j : Job} {k v : ℕ} {l : List ℕ} → Timed j k l → k < points j → v ≡ tickOf j k → Timed j (k + 1) (set l k v)
+timed-step {j} {k} {v} {l} T h e = record { size = rw (length-set l k v) (T .size); ticks = λ i li. here i li (ℕ-discrete i k) }
+  where
+    here : (i : ℕ) → i < k + 1 → Dec (i ≡ k) → getD (set l k v) i 0 ≡ tickOf j i
+    here i li (yes d) = rw d (getD-set-same l k v 0 (omega (arith, T .size)) ∙ e)
+    here i li (no ne) = getD-set-other l k i v 0 ne ∙ T .ticks i (omega arith)

@@ -1,0 +1,45 @@
+-- The rectangle of those rows and columns, and the stream's course as hop and delay.
+use mathlib.Core.Path.{_≡_, refl, ap, _∙_}
+use mathlib.Core.List.{List, [], _∷_}
+use borrow.Author.Needs.{needs}
+use lib.IntN.{ℤ, natAbs}
+use Rattle.space.specs.Vectors.{entries}
+use Rattle.boxes.specs.Boxes.{Box, side}
+use Rattle.space.proofs.VectorLaws.{unfour}
+use Rattle.mapping.proofs.Fits.{row0-sized, row1-sized}
+use Rattle.mapping.proofs.Meetings.{unit-sized}
+use Rattle.verdict.proofs.SizeLaws.{delay-up}
+use Rattle.frame.proofs.FrameLaws.{held-limit, held-is, small-ends}
+use Rattle.frame.proofs.band_of.Statement.{statement}
+use Rattle.frame.proofs.band_of.Tie as tie
+
+course-of-requires : tie.Need-course-of-requires
+course-of-requires c κs = (c .pre .0, c .pre .4)
+
+size-requires : tie.Need-size-requires
+size-requires c κs = search needs
+
+-- two sides, and two entries
+sides : {a b c d a′ b′ c′ d′ : ℤ} → a ≡ a′ → b ≡ b′ → c ≡ c′ → d ≡ d′ → _≡_ {A = Box} (side a b ∷ side c d ∷ []) (side a′ b′ ∷ side c′ d′ ∷ [])
+sides e f g h = rw (e, f, g, h)
+
+two : {a b a′ b′ : ℤ} → a ≡ a′ → b ≡ b′ → _≡_ {A = List ℤ} (a ∷ b ∷ []) (a′ ∷ b′ ∷ [])
+two e f = rw (e, f)
+
+returns : tie.Need-returns
+returns c =
+    let g = c .before .before .before .before .before .before .before .args in
+    let p = c .before .before .before .before .before .before .before .pre in
+    let a = p .0 in
+    let s0 = small-ends (g .j) a (entries (g .j .row0)) refl (row0-sized (g .j) a) in
+    let s1 = small-ends (g .j) a (entries (g .j .row1)) refl (row1-sized (g .j) a) in
+    let u = unfour (c .before .before .before .before .before .before .course-of .ensures .unit) in
+    let z = unit-sized (g .j) (g .s) a (p .4) .each in
+    record {
+      rectangle = sides (held-is (p .2 .low) (s0 .0)) (held-is (p .2 .high) (s0 .1)) (held-is (p .3 .low) (s1 .0)) (held-is (p .3 .high) (s1 .1));
+      hop = two (held-limit (u .1) (z .1 .0)) (held-limit (u .2) (z .1 .1 .0));
+      delay = c .before .before .before .size .ensures ∙ ap natAbs (held-limit (u .0) (z .0)) ∙ delay-up (g .j) (g .s) (p .1 (g .s) (p .4));
+    }
+
+pub band-of-spec : {M : Type 1} → statement M
+band-of-spec = tie.close (tie.spec course-of-requires size-requires returns)
