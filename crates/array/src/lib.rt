@@ -41,7 +41,7 @@ pub fn answer_of(r: Reply) -> Answer
             count: n,
         },
         Reply::Refused(v) => {
-            let a = verdict::numbers::answer_of(v);
+            let a = replies::numbers::answer_of(v);
             Answer {
                 number: a.number,
                 count: 0,

@@ -11,10 +11,10 @@ use Rattle.reader.specs.Reading.{Reads}
 use Rattle.reader.specs.declared.Reply.the-variants as Reply
 use Rattle.reader.proofs.Theorems.{reads-unique}
 use Rattle.verdict.specs.Replies.{Says}
-use Rattle.verdict.specs.Bytes.{SaysOf}
+use Rattle.replies.specs.Bytes.{SaysOf}
 use Rattle.verdict.specs.declared.Verdict.{Verdict}
 use Rattle.verdict.specs.declared.Verdict.the-variants.{Limit}
-use Rattle.verdict.proofs.UniqueBytes.{says-of-unique}
+use Rattle.replies.proofs.Unique.{says-of-unique}
 use Rattle.line.specs.Lines.{lineFields, lineOf, longest, Writes}
 use Rattle.line.specs.Bytes.{Prints, WritesOf}
 

@@ -5,7 +5,7 @@ use Prim.Native.Nat.{ℕ}
 use Rattle.job.specs.declared.Job.{Job}
 use Rattle.reader.specs.Reading.{Reads}
 use Rattle.reader.specs.declared.Reply.the-variants as Reply
-use Rattle.verdict.specs.Bytes.{SaysOf}
+use Rattle.replies.specs.Bytes.{SaysOf}
 use Rattle.verdict.specs.declared.Verdict.{Verdict}
 use Rattle.line.specs.Lines.{lineOf, Writes}
 

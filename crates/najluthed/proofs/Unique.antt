@@ -3,11 +3,11 @@ use mathlib.Core.Path.{_≡_, sym, ap, ap₂, subst, _∙_}
 use mathlib.Core.List.{List}
 use Prim.Native.Nat.{ℕ}
 use lib.IntN.{ℤ, pos}
-use Rattle.verdict.specs.Bytes.{SaysOf}
+use Rattle.replies.specs.Bytes.{SaysOf}
 use Rattle.verdict.specs.Replies.{numberOf, streamOf, hopsOf}
-use Rattle.verdict.specs.declared.bytes.Room.{Room}
-use Rattle.verdict.specs.declared.bytes.Room.the-variants as Room
-use Rattle.verdict.proofs.UniqueBytes.{says-of-unique, counts-unique}
+use Rattle.replies.specs.declared.bytes.Room.{Room}
+use Rattle.replies.specs.declared.bytes.Room.the-variants as Room
+use Rattle.replies.proofs.Unique.{says-of-unique, counts-unique}
 use Rattle.array.specs.Runs.{numberOf as numberIn, countIn}
 use Rattle.array.specs.declared.Reply.{Reply as RunReply}
 use Rattle.lookup.specs.declared.Worked.{Worked as Lookup}

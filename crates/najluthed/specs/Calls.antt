@@ -5,10 +5,10 @@ use Prim.Native.Nat.{ℕ}
 use lib.IntN.{ℤ, pos}
 use Rattle.job.specs.declared.Job.{Job}
 use Rattle.verdict.specs.Replies.{numberOf, streamOf, hopsOf}
-use Rattle.verdict.specs.Bytes.{SaysOf, Counts}
+use Rattle.replies.specs.Bytes.{SaysOf, Counts}
 use Rattle.verdict.specs.declared.Verdict.{Verdict}
-use Rattle.verdict.specs.declared.bytes.Room.{Room}
-use Rattle.verdict.specs.declared.bytes.Room.the-variants as Room
+use Rattle.replies.specs.declared.bytes.Room.{Room}
+use Rattle.replies.specs.declared.bytes.Room.the-variants as Room
 use Rattle.loops.specs.LoopBytes.{LoopsOf}
 use Rattle.loops.specs.declared.looped.Reply.{Reply as LoopReply}
 use Rattle.loops.specs.declared.looped.Reply.the-variants as Loop

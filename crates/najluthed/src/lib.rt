@@ -1,5 +1,5 @@
 // The library for C, C++, Rust and Python: each function takes job bytes and answers in numbers. Names and types are those of include/najluthed.h.
-use verdict::bytes::Room;
+use replies::bytes::Room;
 ghost use mathlib.Core.Path.{_≡_};
 ghost use Rattle.najluthed.specs.Calls.{AnswersVerdict, AnswersRoom, AnswersRun, AnswersTick, AnswersLoop, AnswersPoint};
 
@@ -34,8 +34,8 @@ pub struct Worked {
 pub extern "C" fn najluthed_verdict(job: &[u8]) -> Reply
     ensures { λ a. ⌜ AnswersVerdict (now (job .entry)) a ⌝ }
 {
-    let v = verdict::bytes::verdict_of_bytes(job);
-    let judged = verdict::numbers::answer_of(v);
+    let v = replies::bytes::verdict_of_bytes(job);
+    let judged = replies::numbers::answer_of(v);
     let hops = judged.hops;
     Reply {
         number: wide(judged.number),
@@ -49,14 +49,14 @@ pub extern "C" fn najluthed_verdict(job: &[u8]) -> Reply
 pub extern "C" fn najluthed_room(job: &[u8]) -> Done
     ensures { λ a. ⌜ AnswersRoom (now (job .entry)) a ⌝ }
 {
-    let room = verdict::bytes::room_of_bytes(job);
+    let room = replies::bytes::room_of_bytes(job);
     match room {
         Room::Places(places) => Done {
             number: 0,
             count: places,
         },
         Room::Refused(v) => {
-            let refused = verdict::numbers::answer_of(v);
+            let refused = replies::numbers::answer_of(v);
             Done {
                 number: wide(refused.number),
                 count: 0,
@@ -144,7 +144,7 @@ pub extern "C" fn najluthed_point(job: &[u8], tick: u64, cell: u64) -> Worked
             x3: 0,
         },
         lookup::Worked::Refused(v) => {
-            let refused = verdict::numbers::answer_of(v);
+            let refused = replies::numbers::answer_of(v);
             Worked {
                 number: wide(refused.number),
                 found: 0,

@@ -37,7 +37,7 @@ fn worked(j: Job, t: u64, x: u64) {
         Worked::At(p) => crate::print::point(p, j.n),
         Worked::Nowhere => say(b"-"),
         Worked::Refused(v) => {
-            let a = verdict::numbers::answer_of(v);
+            let a = replies::numbers::answer_of(v);
             say(b"refused");
             number(wide(a.number));
         }

@@ -1,4 +1,3 @@
 pub mod Unique
 pub mod FirstPairs
 pub mod SizeLaws
-pub mod UniqueBytes

@@ -22,13 +22,12 @@ use Rattle.job.proofs.Refusing.{first-unique, acceptable}
 use Rattle.mapping.specs.Mapping.{hop, delays}
 use Rattle.mapping.proofs.Courses.{hop-nonzero}
 use Rattle.verdict.specs.Rules.{Meeting, Kept, Keeps, Span, Sizes}
-use Rattle.verdict.specs.Replies.{Lowest, FirstPair, turn, Claims, Says, Answers}
+use Rattle.verdict.specs.Replies.{Lowest, FirstPair, turn, Claims, Says}
 use Rattle.verdict.specs.declared.Size.{Size}
 use Rattle.verdict.specs.declared.Pair.{Pair}
 use Rattle.verdict.specs.declared.Clash.{Clash}
 use Rattle.verdict.specs.declared.Verdict.{Verdict}
 use Rattle.verdict.specs.declared.Verdict.the-variants.{Accepted, Limit, Precedence, Hop, Cell, Link}
-use Rattle.verdict.specs.declared.numbers.Answer.{Answer}
 
 -- ---- the rules kept before a later reply were kept before an earlier one, and its own rule too
 fewer : (j : Job) (m n : ℕ) → m < n → Keeps j n → Kept j m
@@ -174,10 +173,3 @@ says-unique j v w s t = at (decLe (suc (turn v)) (turn w)) (decLe (suc (turn w))
     at (yes h) k = absurd (broken j v (omega (arith, most w)) (s .claim) (fewer j (turn v) (turn w) h (t .kept)))
     at (no h) (yes k) = absurd (broken j w (omega (arith, most v)) (t .claim) (fewer j (turn w) (turn v) k (s .kept)))
     at (no h) (no k) = same j v w (omega arith) (s .claim) (t .claim)
-
--- one answer in numbers
-pub answers-unique : (v : Verdict) (a b : Answer) → Answers v a → Answers v b → a ≡ b
-answers-unique v a b p q = made (p .number ∙ sym (q .number)) (p .stream ∙ sym (q .stream)) (p .hops ∙ sym (q .hops))
-  where
-    made : {n s n′ s′ : ℕ} {f f′ : ℤ} → n ≡ n′ → s ≡ s′ → f ≡ f′ → _≡_ {A = Answer} (record { number = n; stream = s; hops = f }) (record { number = n′; stream = s′; hops = f′ })
-    made e g h = rw (e, g, h)

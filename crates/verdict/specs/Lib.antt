@@ -1,4 +1,3 @@
 pub mod Rules
 pub mod Replies
 pub mod Searches
-pub mod Bytes

@@ -11,7 +11,6 @@ use Rattle.job.specs.Refusals.{First}
 use Rattle.job.specs.Limits.{limits}
 use Rattle.verdict.specs.Rules.{Ahead, Even, SameCell, Meeting, Keeps, Sizes}
 use Rattle.verdict.specs.declared.Verdict.{Verdict}
-use Rattle.verdict.specs.declared.numbers.Answer.{Answer}
 use Rattle.verdict.specs.declared.Verdict.the-variants.{Accepted, Limit, Precedence, Hop, Cell, Link}
 
 -- 'lowest stream first': s is the first of m streams of which P does not hold
@@ -76,9 +75,3 @@ hopsOf (Precedence s) = pos 0
 hopsOf (Hop s) = pos 0
 hopsOf (Cell c) = pos 0
 hopsOf (Link c) = c .hops
-
--- what a verdict answers in numbers
-pub record Answers (v : Verdict) (r : Answer) : Type 0 where
-  pub number : r .number ≡ numberOf v
-  pub stream : r .stream ≡ streamOf v
-  pub hops : r .hops ≡ hopsOf v

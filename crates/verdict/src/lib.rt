@@ -1,6 +1,4 @@
 // The verdict on a job: accepted with its sizes, or the first broken rule with its stream and its first pair.
-pub mod bytes;
-pub mod numbers;
 mod rules;
 
 use crate::rules::Broken;

@@ -1,6 +1,6 @@
 use mathlib.Core.Path.{_∙_, refl, subst}
 use borrow.Author.Needs.{needs}
-use Rattle.verdict.specs.Bytes.{SaysOf, Counts}
+use Rattle.replies.specs.Bytes.{SaysOf, Counts}
 use Rattle.najluthed.proofs.najluthed_room.Statement.{statement}
 use Rattle.najluthed.proofs.najluthed_room.Tie as tie
 

@@ -1,8 +1,8 @@
 use mathlib.Core.Path.{sym, ap}
 use borrow.Author.Needs.{needs}
-use Rattle.verdict.specs.Bytes.{roomOf}
-use Rattle.verdict.proofs.bytes.room_in.Statement.{statement}
-use Rattle.verdict.proofs.bytes.room_in.Tie as tie
+use Rattle.replies.specs.Bytes.{roomOf}
+use Rattle.replies.proofs.bytes.room_in.Statement.{statement}
+use Rattle.replies.proofs.bytes.room_in.Tie as tie
 
 enum-known-v : tie.Need-enum-known-v
 enum-known-v c = search needs

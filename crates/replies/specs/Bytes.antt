@@ -4,11 +4,11 @@ use mathlib.Core.List.{List}
 use Prim.Native.Nat.{ℕ}
 use Rattle.job.specs.declared.Job.{Job}
 use Rattle.reader.specs.Reading.{OfBytes}
 use Rattle.verdict.specs.Replies.{Says}
 use Rattle.verdict.specs.declared.Verdict.{Verdict}
 use Rattle.verdict.specs.declared.Verdict.the-variants.{Accepted, Limit, Precedence, Hop, Cell, Link}
-use Rattle.verdict.specs.declared.bytes.Room.{Room}
-use Rattle.verdict.specs.declared.bytes.Room.the-variants.{Places, Refused}
+use Rattle.replies.specs.declared.bytes.Room.{Room}
+use Rattle.replies.specs.declared.bytes.Room.the-variants.{Places, Refused}
 
 -- v is the verdict on the bytes: the reader's refusal, or the verdict on the job that they are
 abbrev pub SaysOf : List ℕ → Verdict → Type 0

@@ -1,10 +1,10 @@
 // The verdict on job bytes, and the room count of a record and of bytes.
-use crate::Verdict;
 use job::Job;
 use reader::Reply;
+use verdict::Verdict;
 ghost use mathlib.Core.Path.{_≡_};
 ghost use Rattle.verdict.specs.Replies.{Says};
-ghost use Rattle.verdict.specs.Bytes.{SaysOf, Counts, roomOf};
+ghost use Rattle.replies.specs.Bytes.{SaysOf, Counts, roomOf};
 
 // How many register places an accepted array has, or the refusal.
 pub enum Room {
@@ -19,7 +19,7 @@ pub fn verdict_of_bytes(s: &[u8]) -> Verdict
     let read = reader::read(s);
     match read {
         Reply::Refused(number) => Verdict::Limit(number),
-        Reply::Job(j) => crate::verdict_of(j),
+        Reply::Job(j) => verdict::verdict_of(j),
     }
 }
 
@@ -27,7 +27,7 @@ pub fn verdict_of_bytes(s: &[u8]) -> Verdict
 pub fn room_of(j: Job) -> Room
     ensures { λ r. ⌜ Counts (Says j) r ⌝ }
 {
-    room_in(crate::verdict_of(j))
+    room_in(verdict::verdict_of(j))
 }
 
 // The room count of job bytes.

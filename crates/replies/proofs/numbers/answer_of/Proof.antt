@@ -1,10 +1,11 @@
 use mathlib.Core.Path.{_≡_, sym, ap}
 use borrow.Author.Needs.{needs}
 use Rattle.space.proofs.Machine.{in-range, back}
-use Rattle.verdict.specs.Replies.{Answers, numberOf, streamOf, hopsOf}
+use Rattle.verdict.specs.Replies.{numberOf, streamOf, hopsOf}
+use Rattle.replies.specs.Answers.{Answers}
 use Rattle.verdict.specs.declared.Verdict.{Verdict}
-use Rattle.verdict.proofs.numbers.answer_of.Statement.{statement}
-use Rattle.verdict.proofs.numbers.answer_of.Tie as tie
+use Rattle.replies.proofs.numbers.answer_of.Statement.{statement}
+use Rattle.replies.proofs.numbers.answer_of.Tie as tie
 
 -- the numbers of the case that the verdict is
 told : (v w : Verdict) → v ≡ w → Answers v record { number = numberOf w; stream = streamOf w; hops = hopsOf w }

@@ -1,6 +1,6 @@
 // A verdict as this paper's number with the stream and the hop count that it returns besides.
-use crate::Verdict;
-ghost use Rattle.verdict.specs.Replies.{Answers};
+use verdict::Verdict;
+ghost use Rattle.replies.specs.Answers.{Answers};
 
 // The number of refusal, 0 for accepted; stream and hops are 0 where the table lists none.
 pub struct Answer {

@@ -1,6 +1,6 @@
 use borrow.Author.Needs.{needs}
-use Rattle.verdict.proofs.bytes.room_of.Statement.{statement}
-use Rattle.verdict.proofs.bytes.room_of.Tie as tie
+use Rattle.replies.proofs.bytes.room_of.Statement.{statement}
+use Rattle.replies.proofs.bytes.room_of.Tie as tie
 
 verdict-of-requires : tie.Need-verdict-of-requires
 verdict-of-requires c κs = search needs
