@@ -28,7 +28,6 @@ use Rattle.tick.specs.Steps.{Runnable, Tabled, Roomy}
 use Rattle.frame.specs.Framing.{AllAhead, Framed}
 use Rattle.array.specs.Lacking.{Lacks}
 use Rattle.array.proofs.Reply.{the-type as reply-type}
-use Rattle.frame.proofs.FrameLaws.{sizes-room}
 
 -- ---- the verdict
 -- a verdict that is not the first variant has a number
@@ -49,7 +48,7 @@ accepted-frames s = (accepted-limits s, s .kept .0 .0 .0 .1)
 
 pub accepted-runs : {j : Job} {z : Size} → Says j (Accepted z) → z .room ≤ 8192 → Runnable j
 accepted-runs {j} {z} s h =
-    record { acceptable = accepted-limits s; ahead = accepted-frames s .1; even = s .kept .0 .0 .1; few = subst (λ (n : ℕ). n ≤ 8192) (sizes-room j (accepted-limits s) z (s .claim)) h }
+    record { acceptable = accepted-limits s; ahead = accepted-frames s .1; even = s .kept .0 .0 .1; few = subst (λ (n : ℕ). n ≤ 8192) (s .claim .room) h }
 
 -- ---- the tables
 -- a test of both lengths
@@ -103,4 +102,4 @@ module _ {j : Job} {z : Size} (s : Says j (Accepted z)) {a b n : ℕ} (p : First
       (record { runnable = r; framed = g; size = e ∙ q .0 }, record { runnable = r; framed = g; size = d ∙ q .1 })
 
   pub places-roomy : {places : List ℕ} → length places ≡ n → Roomy j places
-  places-roomy e = record { enough = omega (arith, passed j a b n z p .3, sizes-room j (accepted-limits s) z (s .claim), e) }
+  places-roomy e = record { enough = omega (arith, passed j a b n z p .3, s .claim .room, e) }

@@ -20,7 +20,7 @@ use Rattle.verdict.specs.declared.Verdict.the-variants.{Accepted, Limit}
 use Rattle.verdict.proofs.Unique.{says-unique}
 use Rattle.array.specs.declared.Reply.{Reply}
 use Rattle.array.specs.declared.Reply.the-variants.{Ticks, Refused, Tables, Large, Few, Late}
-use Rattle.frame.specs.Frames.{ticks, room}
+use Rattle.mapping.specs.Frames.{ticks, room}
 use Rattle.tick.specs.Ticks.{Ticked}
 use Rattle.array.specs.Runs.{Ran, cleared, Answers, runChecks, tickChecks, numberOf, Stands, Replies, Runs, Steps, RepliesOf}
 use Rattle.array.proofs.ReplyLaws.{accepted-runs, passed}

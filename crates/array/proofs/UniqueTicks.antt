@@ -10,7 +10,7 @@ use lib.ListN.{length, getD, drop}
 use lib.Seq.{ext-getD, getD-drop}
 use Rattle.job.specs.declared.Job.{Job}
 use Rattle.loops.specs.Tables.{points, entryFor}
-use Rattle.frame.specs.Frames.{cells, tickOf, w, from, room, held}
+use Rattle.mapping.specs.Frames.{cells, tickOf, w, from, room, held}
 use Rattle.tick.specs.Ticks.{Ticked}
 use Rattle.array.specs.Runs.{Ran}
 use Rattle.array.specs.Runs.Ran.{ready, ticked}

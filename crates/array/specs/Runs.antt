@@ -11,7 +11,7 @@ use Rattle.verdict.specs.Replies.{Says, numberOf as numberIn}
 use Rattle.verdict.specs.declared.Verdict.the-variants.{Accepted, Limit}
 use Rattle.verdict.specs.declared.Size.{Size}
 use Rattle.loops.specs.Tables.{Long}
-use Rattle.frame.specs.Frames.{ticks, room}
+use Rattle.mapping.specs.Frames.{ticks, room}
 use Rattle.tick.specs.Ticks.{Ticked}
 use Rattle.array.specs.declared.Reply.{Reply}
 use Rattle.array.specs.declared.Reply.the-variants.{Ticks, Refused, Tables, Large, Few, Late}

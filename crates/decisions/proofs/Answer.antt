@@ -5,7 +5,7 @@ use Prim.Native.Nat.{ℕ, zero, suc, _+_, _*_, _-_, _<_, _≤_}
 use native.Mathlib.Omega.{arith}
 use native.Mathlib.Decide.{decLe}
 use lib.ListN.{getD}
-use lib.IntN.{ℤ, pos, natAbs, _-ℤ_, _*ℤ_}
+use lib.IntN.{ℤ, pos, natAbs, _*ℤ_}
 use lib.Signed.{quotZ}
 use Rattle.space.specs.declared.Vector.{Vector}
 use Rattle.boxes.specs.declared.Bounds.{Bounds}
@@ -16,20 +16,19 @@ use Rattle.space.proofs.Ints.{times-none, whole-quot}
 use Rattle.space.proofs.VectorLaws.{minus-plus}
 use Rattle.space.proofs.MultipleLaws.{times-cancel}
 use Rattle.boxes.proofs.BoxLaws.{place-below}
-use Rattle.boxes.proofs.ExtremeLaws.{least-is, greatest-is}
 use Rattle.boxes.proofs.PairLaws.{startOf, start-in, start-least, in-apart, apart-in}
 use Rattle.boxes.proofs.PairLaws as PairLaws
 use Rattle.job.specs.declared.Job.{Job}
 use Rattle.job.specs.Refusals.{First}
 use Rattle.job.specs.Limits.{limits}
 use Rattle.job.proofs.Refusing.{accepted}
-use Rattle.mapping.specs.Mapping.{box, stream, along, H, S, g, Stationary, delays}
+use Rattle.mapping.specs.Mapping.{box, stream, along, H, S, g, Stationary}
 use Rattle.mapping.specs.Collisions.{Collide, senders}
 use Rattle.mapping.specs.Courses.{placed}
 use Rattle.mapping.specs.Searches.{Still, Meets, Finds-gap}
 use Rattle.mapping.specs.declared.walk.Gap.{Gap}
 use Rattle.mapping.specs.declared.walk.Gap.the-variants as Gap
-use Rattle.verdict.specs.Rules.{Ahead, Even, Meeting, Keeps, Span, Sizes}
+use Rattle.verdict.specs.Rules.{Ahead, Even, Meeting, Keeps, Sizes}
 use Rattle.verdict.specs.Replies.{Lowest, FirstPair, Says}
 use Rattle.verdict.specs.Searches.{Finds, Finds-crowd, Finds-jam, Finds-jams}
 use Rattle.verdict.specs.declared.Size.{Size}
@@ -48,7 +47,7 @@ use Rattle.mapping.proofs.Gaps.{zerosOf, Spread, Passed, passed-first, passed-m
 use Rattle.mapping.proofs.Gaps as Gaps
 use Rattle.mapping.proofs.Meetings.{unit-of, unit-nonzero, apart-times, times-apart}
 use Rattle.verdict.proofs.FirstPairs.{ByGap, cell-by-gap, link-by-gap, meets-meeting, no-pair, first-pair}
-use Rattle.verdict.proofs.SizeLaws.{span-is}
+use Rattle.mapping.specs.Frames.{cells, ticks, room}
 
 -- ---- precedence and hop: the lowest of m streams of which P does not hold
 module _ (P : ℕ → Type 0) (d : (t : ℕ) → Decided (P t)) where
@@ -267,23 +266,10 @@ unfolding clear jams-at
 jams j h = let w = lowest-of (Clear j) (clear j h) (j .m) in jams-at j h (w .0) (w .1)
 
 -- ---- the sizes
--- from the least to the greatest product of a row, both at corners of the box
-unfoldable span : (v : Vector) (b : Bounds) → Solid (boxOf b) → (n : ℕ) × Span (entries v) (boxOf b) n
-unfolding dotOf timesOf cornerOf leastOf greatestOf
-span v b h =
-    (natAbs (greatestOf (entries v) (boxOf b) -ℤ leastOf (entries v) (boxOf b)) + 1, span-is (least-is (entries v) (boxOf b) refl h) (greatest-is (entries v) (boxOf b) refl h))
-
 -- cells, ticks and room
-unfoldable size : (j : Job) → Solid (box j) → (z : Size) × Sizes j z
-unfolding span dotOf gcdOf
-size j h =
-    let rows = span (j .row0) (j .bounds) h in
-    let columns = span (j .row1) (j .bounds) h in
-    let ticks = span (j .time) (j .bounds) h in
-    let cells = rows .0 * columns .0 in (
-      record { cells = cells; ticks = ticks .0; room = cells * delays j (j .m) },
-      record { rows = rows .0; columns = columns .0; first = rows .1; second = columns .1; cells = refl; ticks = ticks .1; room = refl },
-    )
+unfoldable size : (j : Job) → (z : Size) × Sizes j z
+unfolding dotOf timesOf cornerOf leastOf greatestOf countOf gcdOf
+size j = (record { cells = cells j; ticks = ticks j; room = room j }, record { cells = refl; ticks = refl; room = refl })
 
 -- ---- the verdict, rule by rule: what is found where the rules before are kept
 abbrev Answer : Job → Type 0
@@ -294,7 +280,7 @@ module _ (j : Job) where
   unfoldable past-cell : Solid (box j) → Keeps j 4 → (c : Jam) → Finds-jams j c → Answer j
   unfolding size
   past-cell h k (Jam.At c) w = (Link c, record { kept = k; claim = (w .0, w .1 .0, w .1 .1) })
-  past-cell h k Jam.Nowhere w = let z = size j h in (Accepted (z .0), record { kept = (k, w); claim = z .1 })
+  past-cell h k Jam.Nowhere w = let z = size j in (Accepted (z .0), record { kept = (k, w); claim = z .1 })
 
   -- the cell rule
   unfoldable past-hop : Solid (box j) → Keeps j 3 → (c : Crowd) → Finds-crowd j c → Answer j

@@ -11,7 +11,7 @@ use Rattle.verdict.specs.declared.Size.{Size}
 use Rattle.verdict.specs.declared.Verdict.the-variants.{Accepted}
 use Rattle.loops.specs.Tables.{points, entryFor}
 use Rattle.loops.specs.Loops.{Looped, incoming as loopIncoming}
-use Rattle.frame.specs.Frames.{cells, ticks, tickOf, cellOf, held}
+use Rattle.mapping.specs.Frames.{cells, ticks, tickOf, cellOf, held}
 use Rattle.tick.specs.Ticks.{pointAt, incoming as arrayIncoming}
 use Rattle.array.specs.Runs.{Ran}
 use Rattle.frame.proofs.FrameLaws.{tick-below, cell-below}

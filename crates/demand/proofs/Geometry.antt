@@ -23,7 +23,7 @@ use Rattle.mapping.specs.Mapping.{box, stream, along, H, S, g, Stationary, orOn
 use Rattle.mapping.proofs.Courses.{stationary-none, hops-moving, place-whole}
 use Rattle.loops.specs.Tables.{points}
 use Rattle.loops.specs.Loops.{previous}
-use Rattle.frame.specs.Frames.{rectangle, clock, tickOf, cellOf, w}
+use Rattle.mapping.specs.Frames.{rectangle, clock, tickOf, cellOf, w}
 use Rattle.frame.proofs.FrameLaws.{between, in-rectangle}
 use Rattle.demand.proofs.Lines.{line-start, line-back, line-behind, minus-back}
 use Rattle.demand.specs.Rules.{Apart, Obeys}

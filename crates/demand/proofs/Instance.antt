@@ -9,7 +9,7 @@ use Rattle.mapping.specs.Mapping.{hops}
 use Rattle.loops.specs.Tables.{entryFor}
 use Rattle.loops.specs.Loops.{previous}
 use Rattle.loops.proofs.LoopLaws.{same-work}
-use Rattle.frame.specs.Frames.{rectangle, cells}
+use Rattle.mapping.specs.Frames.{rectangle, cells}
 use Rattle.boxes.specs.Boxes.{given}
 use Rattle.demand.specs.Instances.{machine, nest}
 use Rattle.demand.proofs.Mapped.{Mapped}

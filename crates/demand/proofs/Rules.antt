@@ -17,7 +17,7 @@ use Rattle.mapping.proofs.Courses.{stationary-none, hops-some}
 use Rattle.verdict.specs.Replies.{Says}
 use Rattle.verdict.specs.declared.Size.{Size}
 use Rattle.verdict.specs.declared.Verdict.the-variants.{Accepted}
-use Rattle.frame.specs.Frames.{w}
+use Rattle.mapping.specs.Frames.{w}
 use Rattle.demand.specs.Rules.{Moving, Apart, Obeys}
 
 module _ (j : Job) (z : Size) (y : Says j (Accepted z)) where

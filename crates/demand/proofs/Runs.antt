@@ -14,7 +14,7 @@ use Rattle.mapping.specs.Mapping.{hop}
 use Rattle.loops.specs.Tables.{points, entryFor}
 use Rattle.cell.specs.Cells.{work}
 use Rattle.loops.specs.Loops.{previous, Looped, incoming as loopIncoming}
-use Rattle.frame.specs.Frames.{rectangle, held}
+use Rattle.mapping.specs.Frames.{rectangle, held}
 use Rattle.tick.specs.Ticks.{pointAt, Ticked as ArrayTicked, arrival as arrayArrival, incoming as arrayIncoming, fresh as arrayFresh, stored as arrayStored}
 use Rattle.array.specs.Runs.{Ran}
 use Rattle.array.specs.Runs.Ran.{ready, ticked}

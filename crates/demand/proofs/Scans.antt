@@ -8,7 +8,7 @@ use native.Mathlib.Omega.{arith}
 use Rattle.space.proofs.Telling.{told}
 use Rattle.job.specs.declared.Job.{Job}
 use Rattle.loops.specs.Tables.{points}
-use Rattle.frame.specs.Frames.{tickOf, cellOf}
+use Rattle.mapping.specs.Frames.{tickOf, cellOf}
 use Rattle.tick.specs.Ticks.{lastOf, works, pointAt}
 use Rattle.tick.proofs.PointLaws.{last-only, works-tells}
 

@@ -9,7 +9,7 @@ use Rattle.mapping.specs.Mapping.{hop}
 use Rattle.loops.specs.Tables.{points, entryFor}
 use Rattle.cell.specs.Cells.{work}
 use Rattle.loops.specs.Loops.{previous}
-use Rattle.frame.specs.Frames.{rectangle, cells, tickOf, cellOf, w}
+use Rattle.mapping.specs.Frames.{rectangle, cells, tickOf, cellOf, w}
 use Rattle.tick.specs.Ticks.{pointAt}
 use Rattle.demand.specs.Machine.{Machine, Nest}
 

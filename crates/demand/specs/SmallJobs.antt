@@ -14,7 +14,7 @@ use Rattle.verdict.specs.declared.Verdict.{Verdict}
 use Rattle.verdict.specs.declared.Verdict.the-variants.{Accepted, Precedence, Hop, Cell, Link}
 use Rattle.loops.specs.Tables.{points}
 use Rattle.loops.specs.Loops.{Looped}
-use Rattle.frame.specs.Frames.{ticks}
+use Rattle.mapping.specs.Frames.{ticks}
 use Rattle.array.specs.Runs.{Ran}
 
 -- a vector of numbers that are not negative

@@ -1,5 +1,5 @@
 -- Laws of the frame: every point has its tick below the tick count and its cell in the rectangle, and the sizes are those of the verdict.
-use mathlib.Core.Path.{_≡_, refl, sym, ap, ap₂, subst, _∙_}
+use mathlib.Core.Path.{_≡_, refl, sym, subst, _∙_}
 use mathlib.Core.List.{List}
 use Prim.Native.Nat.{ℕ, _+_, _*_, _<_, _≤_}
 use native.Mathlib.Nat.{mul-le-mul, mul-one, add-zero, le-trans, le-of-eq}
@@ -7,27 +7,24 @@ use native.Mathlib.Decide.{ℕ-discrete}
 use native.Mathlib.Omega.{arith}
 use lib.ListN.{length, getD, set, length-set}
 use lib.Seq.{getD-set-same, getD-set-other}
-use lib.IntN.{ℤ, pos, _+ℤ_, _-ℤ_}
+use lib.IntN.{ℤ}
 use lib.Signed.{_≤ℤ_}
-use Rattle.space.specs.Numbers.{Size, limit, entry, coordinate, up, steps}
+use Rattle.space.specs.Numbers.{Size, limit, entry, coordinate, steps}
 use Rattle.space.specs.Vectors.{entries, dotOf, Sized}
 use Rattle.boxes.specs.Boxes.{Box, In, Solid, across, countOf, placeOf, pointOf, leastOf, greatestOf, Least, Greatest}
-use Rattle.space.proofs.Parts.{int, sum, difference}
 use Rattle.space.proofs.Ints.{size-up}
 use Rattle.space.proofs.Machine.{held, as-held}
 use Rattle.boxes.proofs.BoxLaws.{SidesSized, across-size, in-sized, point-in, place-below, steps-below, sides-sized}
-use Rattle.boxes.proofs.ExtremeLaws.{least-is, greatest-is, least-unique, greatest-unique, least-size}
+use Rattle.boxes.proofs.ExtremeLaws.{least-is, greatest-is, least-size}
 use Rattle.space.proofs.VectorLaws.{sized-up, dot-size}
 use Rattle.job.specs.declared.Job.{Job}
 use Rattle.job.specs.Limits.{Acceptable}
-use Rattle.mapping.specs.Mapping.{box, H, S, delays}
+use Rattle.mapping.specs.Mapping.{box, H, S}
 use Rattle.mapping.proofs.Fits.{solid, row0-sized, row1-sized, low-sized, high-sized}
-use Rattle.verdict.specs.Rules.{Span, Sizes}
-use Rattle.verdict.specs.declared.Size.{Size as Counts}
-use Rattle.verdict.proofs.SizeLaws.{greatest-size}
+use Rattle.verdict.proofs.SizeLaws.{greatest-size, cells-are}
 use Rattle.loops.specs.Tables.{points}
 use Rattle.frame.specs.Framing.{Timed}
-use Rattle.frame.specs.Frames.{reach, rectangle, cells, clock, ticks, tickOf, cellOf, room}
+use Rattle.mapping.specs.Frames.{reach, rectangle, cells, clock, ticks, tickOf, cellOf}
 
 -- ---- a small number that is read back
 pub held-limit : {z v : ℤ} → v ≡ z → Size limit z → held v ≡ z
@@ -91,36 +88,9 @@ module _ (j : Job) (a : Acceptable j) where
       let h = row-greatest (entries (j .row1)) refl in
       (subst (λ (z : ℤ). leastOf (entries (j .row0)) (box j) ≤ℤ z) (g .met .2) (r .below (g .met .0) (g .met .1)), (subst (λ (z : ℤ). leastOf (entries (j .row1)) (box j) ≤ℤ z) (h .met .2) (q .below (h .met .0) (h .met .1)), tt))
 
-  -- ---- the sizes of the verdict
-  pub span-across : (h : List ℤ) → length h ≡ 4 → (n : ℕ) → Span h (box j) n → n ≡ across (reach h (box j))
-  span-across h e n s =
-      let l = least-unique (s .least) (row-least h e) in
-      let g = greatest-unique (s .greatest) (row-greatest h e) in
-      let lo = s .low in
-      let hi = s .high in
-      let here : pos n ≡ (hi +ℤ pos 1) -ℤ lo = omega (int, s .numbers, sum (hi -ℤ lo) (pos 1), difference hi lo, sum hi (pos 1), difference (hi +ℤ pos 1) lo) in
-      ap up here ∙ ap₂ (λ (x y : ℤ). steps x (y +ℤ pos 1)) l g
-
-  pub sizes-ticks : (z : Counts) → Sizes j z → z .ticks ≡ ticks j
-  sizes-ticks z s = span-across (entries (j .time)) refl (z .ticks) (s .ticks)
-
-  pub sizes-cells : (z : Counts) → Sizes j z → z .cells ≡ cells j
-  unfolding countOf
-  sizes-cells z s =
-      let r = span-across (entries (j .row0)) refl (s .rows) (s .first) in
-      let q = span-across (entries (j .row1)) refl (s .columns) (s .second) in
-      s .cells ∙ ap₂ (λ (x y : ℕ). x * y) r (q ∙ sym (mul-one (across (reach (entries (j .row1)) (box j)))))
-
-  pub sizes-room : (z : Counts) → Sizes j z → z .room ≡ room j
-  sizes-room z s = s .room ∙ ap (λ (n : ℕ). n * delays j (j .m)) (sizes-cells z s)
-
-  -- ---- the cells of the rectangle are the product of its sides, and few
+  -- ---- the cells are few
   pub across-small : (h : List ℤ) → length h ≡ 4 → Sized 127 h → across (reach h (box j)) ≤ 16752649
   across-small h e p = let s = small-ends h e p in across-size (reach h (box j)) (s .0) (s .1)
-
-  pub cells-are : cells j ≡ across (reach (entries (j .row0)) (box j)) * across (reach (entries (j .row1)) (box j))
-  unfolding countOf
-  cells-are = ap (λ (n : ℕ). across (reach (entries (j .row0)) (box j)) * n) (mul-one (across (reach (entries (j .row1)) (box j))))
 
   -- ---- the points are small
   pub point-sized : (k : ℕ) → k < points j → Sized coordinate (pointOf (box j) k)
@@ -136,7 +106,7 @@ module _ (j : Job) (a : Acceptable j) where
   cell-is k = flat _ (across (reach (entries (j .row1)) (box j))) _
 
   pub cells-small : cells j ≤ 16752649 * 16752649
-  cells-small = le-trans (le-of-eq cells-are) (mul-le-mul (across-small (entries (j .row0)) refl (row0-sized j a)) (across-small (entries (j .row1)) refl (row1-sized j a)))
+  cells-small = le-trans (le-of-eq (cells-are j)) (mul-le-mul (across-small (entries (j .row0)) refl (row0-sized j a)) (across-small (entries (j .row1)) refl (row1-sized j a)))
 
 -- ---- the timetable
 -- one more tick is written

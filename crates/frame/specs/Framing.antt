@@ -12,7 +12,7 @@ use Rattle.verdict.specs.Rules.{Ahead}
 use Rattle.bands.specs.Bands.{rectangleOf, hopOf}
 use Rattle.bands.specs.declared.Band.{Band}
 use Rattle.loops.specs.Tables.{points}
-use Rattle.frame.specs.Frames.{reach, rectangle, cells, clock, ticks, tickOf, w}
+use Rattle.mapping.specs.Frames.{reach, rectangle, cells, clock, ticks, tickOf, w}
 use Rattle.frame.specs.declared.Frame.{Frame}
 use Rattle.frame.specs.declared.Bands.{Bands}
 use Rattle.frame.specs.declared.Reach.{Reach}

@@ -12,7 +12,7 @@ ghost use Rattle.boxes.specs.Boxes.{Solid, boxOf, pointOf};
 ghost use Rattle.job.specs.Limits.{Acceptable};
 ghost use Rattle.mapping.specs.Mapping.{box};
 ghost use Rattle.loops.specs.Tables.{points as pointsOf};
-ghost use Rattle.frame.specs.Frames.{tickOf, cellOf, cells};
+ghost use Rattle.mapping.specs.Frames.{tickOf, cellOf, cells};
 ghost use Rattle.frame.specs.Framing.{AllAhead, Reaches, Framed, Banded, bandAt, AllBanded, Timed};
 
 pub struct Frame {

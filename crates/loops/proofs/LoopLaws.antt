@@ -1,5 +1,5 @@
 -- Laws of the loop: the point before one stands before it, and a column that is worked carries the loop one point further.
-use mathlib.Core.Path.{_≡_, refl, sym, subst, _∙_}
+use mathlib.Core.Path.{_≡_, refl, sym, _∙_}
 use mathlib.Core.Logic.{inl, inr, ⊎-elim}
 use mathlib.Core.List.{List}
 use mathlib.Core.Option.{Option, none, some}
@@ -8,13 +8,9 @@ use native.Mathlib.Decide.{ℕ-discrete}
 use native.Mathlib.Omega.{arith}
 use lib.Arith.{digits-lt}
 use lib.ListN.{length, getD, set, length-set}
-use lib.IntN.{ℤ}
 use lib.Seq.{getD-set-same, getD-set-other, ext-getD}
-use Rattle.space.specs.Numbers.{difference}
-use Rattle.space.specs.Vectors.{entries, Sized}
-use Rattle.boxes.specs.Boxes.{In, pointOf, given}
-use Rattle.space.proofs.VectorLaws.{sized-up}
-use Rattle.boxes.proofs.BoxLaws.{solid-count, point-in}
+use Rattle.space.specs.Vectors.{entries}
+use Rattle.boxes.specs.Boxes.{given}
 use Rattle.boxes.proofs.BackLaws.{back-before}
 use Rattle.job.specs.declared.Job.{Job}
 use Rattle.job.specs.Refusals.{done, check, First}
@@ -22,26 +18,13 @@ use Rattle.job.specs.Limits.{limits, Acceptable}
 use Rattle.job.proofs.Refusing.{Passes, then-first}
 use Rattle.job.proofs.Accepting.{stream-sound}
 use Rattle.mapping.specs.Mapping.{box, stream, along}
-use Rattle.mapping.proofs.Fits.{low-sized, high-sized, solid}
+use Rattle.mapping.proofs.Fits.{some-point}
 use Rattle.loops.specs.Tables.{points, entryFor}
 use Rattle.cell.specs.Cells.{ruled, work}
 use Rattle.loops.specs.Loops.{previous, incoming, Looped, loopChecks}
 use Rattle.loops.specs.Steps.{Column}
 use Rattle.space.proofs.Rows.{spots}
 use native.Mathlib.Nat.{div-add-mod', mod-lt, div-lt-iff-lt-mul}
-
--- ---- the walk over the points
--- the box of an acceptable job is small enough to walk
-pub walkable : {j : Job} → Acceptable j → Sized difference (entries (j .bounds .low)) × Sized difference (entries (j .bounds .high))
-walkable {j} a = (sized-up (omega arith) (low-sized j a), sized-up (omega arith) (high-sized j a))
-
--- there is a first point
-pub some-point : {j : Job} → Acceptable j → 0 < points j
-some-point {j} a = solid-count (box j) (solid j a)
-
--- a point that stands at a place is in the box
-pub stands-in : (j : Job) (k : ℕ) {p : List ℤ} → k < points j → p ≡ pointOf (box j) k → In (box j) p
-stands-in j k h e = subst (In (box j)) (sym e) (point-in (box j) k h)
 
 -- ---- the point before one
 -- it stands before: d points forward

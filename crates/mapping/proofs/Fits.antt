@@ -1,5 +1,5 @@
 -- What an acceptable job's numbers come to: small enough for every sum and product of the verdict.
-use mathlib.Core.Path.{_≡_}
+use mathlib.Core.Path.{_≡_, sym, subst}
 use mathlib.Core.List.{List}
 use Prim.Native.Nat.{ℕ, _<_, _≤_}
 use native.Mathlib.Omega.{arith}
@@ -8,14 +8,15 @@ use lib.IntN.{ℤ, pos}
 use Rattle.space.specs.declared.Vector.{Vector}
 use Rattle.space.specs.Numbers.{Size, limit, coordinate, difference}
 use Rattle.space.specs.Vectors.{entries, dotOf, Sized}
-use Rattle.boxes.specs.Boxes.{Solid, boxOf}
+use Rattle.boxes.specs.Boxes.{Solid, boxOf, In, countOf, pointOf}
 use Rattle.space.proofs.Ints.{size-up}
 use Rattle.space.proofs.VectorLaws.{sized-up, dot-size}
 use Rattle.job.specs.declared.Job.{Job}
 use Rattle.job.specs.Limits.{Acceptable, Unused}
 use Rattle.job.proofs.Accepting.{stream-sound}
-use Rattle.mapping.specs.Mapping.{along}
+use Rattle.mapping.specs.Mapping.{along, box}
 use Rattle.mapping.specs.Courses.{placed}
+use Rattle.boxes.proofs.BoxLaws.{solid-count, point-in}
 
 -- a vector with no coordinate used is as small as any
 empty-sized : (b : ℕ) (v : Vector) → Unused 0 v → Sized b (entries v)
@@ -58,3 +59,16 @@ module _ (j : Job) (a : Acceptable j) where
     where
       product : {v : Vector} → Sized 127 (entries v) → Size limit (dotOf (entries v) x)
       product p = size-up (omega arith) (dot-size p h)
+
+-- ---- the walk over the points
+-- the box of an acceptable job is small enough to walk
+pub walkable : {j : Job} → Acceptable j → Sized difference (entries (j .bounds .low)) × Sized difference (entries (j .bounds .high))
+walkable {j} a = (sized-up (omega arith) (low-sized j a), sized-up (omega arith) (high-sized j a))
+
+-- there is a first point
+pub some-point : {j : Job} → Acceptable j → 0 < countOf (box j)
+some-point {j} a = solid-count (box j) (solid j a)
+
+-- a point that stands at a place is in the box
+pub stands-in : (j : Job) (k : ℕ) {p : List ℤ} → k < countOf (box j) → p ≡ pointOf (box j) k → In (box j) p
+stands-in j k h e = subst (In (box j)) (sym e) (point-in (box j) k h)

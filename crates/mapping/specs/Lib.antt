@@ -1,4 +1,5 @@
 pub mod Mapping
+pub mod Frames
 pub mod Collisions
 pub mod Courses
 pub mod Searches

@@ -22,7 +22,7 @@ use Rattle.mapping.proofs.Fits.{row0-sized, row1-sized}
 use Rattle.mapping.proofs.Meetings.{unit-sized}
 use Rattle.bands.specs.Bands.{rectangleOf, at, arrivalIn, Shaped, Lent}
 use Rattle.bands.specs.declared.Band.{Band}
-use Rattle.frame.specs.Frames.{rectangle, cells, w, from}
+use Rattle.mapping.specs.Frames.{rectangle, cells, w, from}
 use Rattle.tick.specs.Ticks.{arrival}
 use Rattle.tick.specs.Steps.{Runnable, Roomy, Band-lent}
 use Rattle.frame.specs.Framing.{Banded, bandAt, Framed}

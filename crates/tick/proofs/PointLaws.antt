@@ -9,7 +9,7 @@ use lib.Dec.{eqb}
 use Rattle.space.specs.Numbers.{Tells}
 use Rattle.space.proofs.Telling.{tells-and, tells-eq}
 use Rattle.job.specs.declared.Job.{Job}
-use Rattle.frame.specs.Frames.{tickOf, cellOf}
+use Rattle.mapping.specs.Frames.{tickOf, cellOf}
 
 -- it is one of them, and passes
 pub last-only : (test : ℕ → Bool) (n k : ℕ) → lastOf test n ≡ some k → (k < n) × (test k ≡ true)

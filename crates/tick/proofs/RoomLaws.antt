@@ -16,7 +16,7 @@ use Rattle.mapping.specs.Mapping.{H, along, g, orOne, delays}
 use Rattle.mapping.proofs.Courses.{stationary-none}
 use Rattle.verdict.specs.Rules.{Ahead, Even}
 use Rattle.verdict.proofs.SizeLaws.{delays-next}
-use Rattle.frame.specs.Frames.{cells, w, from, room}
+use Rattle.mapping.specs.Frames.{cells, w, from, room}
 use Rattle.tick.specs.Steps.{Runnable}
 
 -- ---- w

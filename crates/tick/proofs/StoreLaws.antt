@@ -18,7 +18,7 @@ use Rattle.bands.specs.Bands.{rectangleOf, at, arrivalIn, Shifted}
 use Rattle.bands.specs.declared.Band.{Band}
 use Rattle.bands.proofs.BandLaws.{its-place}
 use Rattle.loops.specs.Tables.{points, entryFor}
-use Rattle.frame.specs.Frames.{rectangle, cells, tickOf, cellOf, w, from, held}
+use Rattle.mapping.specs.Frames.{rectangle, cells, tickOf, cellOf, w, from, held}
 use Rattle.tick.specs.Ticks.{lastOf, works, arrival}
 use Rattle.tick.specs.Steps.{Runnable, Roomy, Band-lent, Slot, putOne, workedOr, Stored}
 use Rattle.frame.specs.Framing.{Banded}

@@ -12,7 +12,7 @@ use Rattle.loops.specs.Tables.{points, entryFor}
 use Rattle.loops.specs.Loops.{previous}
 use Rattle.loops.specs.Steps.{Column}
 use Rattle.loops.proofs.LoopLaws.{same-work}
-use Rattle.frame.specs.Frames.{tickOf, cellOf}
+use Rattle.mapping.specs.Frames.{tickOf, cellOf}
 use Rattle.tick.specs.Ticks.{arrival, incoming, fresh}
 use Rattle.tick.specs.Steps.{Point, Points}
 

@@ -13,7 +13,7 @@ use Rattle.verdict.specs.Rules.{Even}
 use Rattle.bands.specs.Bands.{at, Lent}
 use Rattle.bands.specs.declared.Band.{Band}
 use Rattle.loops.specs.Tables.{points, entryFor}
-use Rattle.frame.specs.Frames.{cells, tickOf, cellOf, w, from, room, held}
+use Rattle.mapping.specs.Frames.{cells, tickOf, cellOf, w, from, room, held}
 use Rattle.tick.specs.Ticks.{lastOf, works, arrival, fresh}
 use Rattle.frame.specs.declared.Frame.{Frame}
 use Rattle.frame.specs.Framing.{AllAhead, Banded, Framed}

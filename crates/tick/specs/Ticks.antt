@@ -12,7 +12,7 @@ use Rattle.mapping.specs.Mapping.{hop}
 use Rattle.loops.specs.Tables.{points, entryFor}
 use Rattle.cell.specs.Cells.{work}
 use Rattle.loops.specs.Loops.{previous}
-use Rattle.frame.specs.Frames.{rectangle, cells, tickOf, cellOf, w, room, held}
+use Rattle.mapping.specs.Frames.{rectangle, cells, tickOf, cellOf, w, room, held}
 
 -- the last of the first n numbers that passes a test
 unfoldable pub lastOf : (ℕ → Bool) → ℕ → Option ℕ

@@ -5,7 +5,7 @@ use job::Job;
 ghost use Prim.Native.Nat.{ℕ, _<_};
 ghost use Rattle.bands.specs.Bands.{at, arrivalIn};
 ghost use Rattle.loops.specs.Tables.{points as pointsOf};
-ghost use Rattle.frame.specs.Frames.{w};
+ghost use Rattle.mapping.specs.Frames.{w};
 ghost use Rattle.tick.specs.Steps.{Tabled, Roomy, Band-lent, Slot, putOne, workedOr, Stored};
 ghost use Rattle.frame.specs.Framing.{Timed};
 

@@ -11,7 +11,7 @@ ghost use Rattle.space.specs.Vectors.{entries};
 ghost use Rattle.boxes.specs.Boxes.{pointOf};
 ghost use Rattle.mapping.specs.Mapping.{box};
 ghost use Rattle.loops.specs.Tables.{points as pointsOf};
-ghost use Rattle.frame.specs.Frames.{tickOf, cells, from as fromOf};
+ghost use Rattle.mapping.specs.Frames.{tickOf, cells, from as fromOf};
 ghost use Rattle.tick.specs.Ticks.{incoming};
 ghost use Rattle.tick.specs.Steps.{Tabled, Roomy, Point, Points};
 ghost use Rattle.frame.specs.Framing.{Banded, Timed};

@@ -1,25 +1,27 @@
 -- What the sizes of an accepted job come to: the span of a row, and the sum of the w.
-use mathlib.Core.Path.{_≡_, refl, subst}
+use mathlib.Core.Path.{_≡_, refl, subst, ap, ap₂, _∙_}
 use mathlib.Core.List.{List}
 use Prim.Native.Nat.{ℕ, _+_, _*_, _<_, _≤_}
-use native.Mathlib.Nat.{le-trans, le-of-eq, div-le-self}
+use native.Mathlib.Nat.{le-trans, le-of-eq, div-le-self, mul-one}
 use native.Mathlib.Numerals.{add-one}
 use lib.ListN.{length}
-use lib.IntN.{ℤ, pos, negsuc, natAbs, _-ℤ_}
+use lib.IntN.{ℤ, pos, negsuc, natAbs, _-ℤ_, _+ℤ_}
 use lib.Signed.{_≤ℤ_, quotZ}
-use Rattle.space.specs.Numbers.{up, Size}
-use Rattle.space.specs.Vectors.{Sized}
-use Rattle.boxes.specs.Boxes.{Box, Least, Greatest}
+use Rattle.space.specs.Numbers.{up, Size, steps}
+use Rattle.space.specs.Vectors.{Sized, entries}
+use Rattle.boxes.specs.Boxes.{Box, Least, Greatest, Solid, across, countOf}
 use Rattle.space.proofs.Parts.{int, sum, difference, magnitude}
 use Rattle.space.proofs.Ints.{natAbs-quot}
 use Rattle.space.proofs.VectorLaws.{dot-size}
 use Rattle.boxes.proofs.BoxLaws.{SidesSized, in-sized}
 use Rattle.job.specs.declared.Job.{Job}
 use Rattle.job.specs.Limits.{Acceptable}
-use Rattle.mapping.specs.Mapping.{along, H, hops, delay, delays}
-use Rattle.verdict.specs.Rules.{Ahead, Span}
+use Rattle.mapping.specs.Mapping.{along, H, hops, delay, delays, box}
+use Rattle.verdict.specs.Rules.{Ahead}
 use Rattle.job.proofs.Accepting.{stream-sound}
 use Rattle.mapping.proofs.Fits.{time-sized}
+use Rattle.boxes.proofs.ExtremeLaws.{least-is, greatest-is, least-unique, greatest-unique}
+use Rattle.mapping.specs.Frames.{reach, cells}
 
 -- ---- the span of a row
 -- the size of the greatest product
@@ -33,16 +35,16 @@ module _ {h : List ℤ} {B : Box} {l u : ℤ} (L : Least h B l) (G : Greatest h 
   least-greatest =
       let k = subst (λ (z : ℤ). l ≤ℤ z) (G .met .2) (L .below (G .met .0) (G .met .1)) in omega (int, difference u l)
 
-  -- so the numbers from the one to the other are one more than their difference
-  pub span-is : Span h B (natAbs (u -ℤ l) + 1)
-  span-is =
-      record {
-        low = l;
-        high = u;
-        least = L;
-        greatest = G;
-        numbers = omega (int, least-greatest, magnitude (u -ℤ l), sum (u -ℤ l) (pos 1));
-      }
+  -- so there are one more numbers from the one to the other than their difference
+  pub span-is : length h ≡ length B → Solid B → natAbs (u -ℤ l) + 1 ≡ across (reach h B)
+  span-is e w =
+      let here : pos (natAbs (u -ℤ l) + 1) ≡ (u +ℤ pos 1) -ℤ l = omega (int, least-greatest, magnitude (u -ℤ l), difference u l, sum u (pos 1), difference (u +ℤ pos 1) l) in
+      ap up here ∙ ap₂ (λ (x y : ℤ). steps x (y +ℤ pos 1)) (least-unique L (least-is h B e w)) (greatest-unique G (greatest-is h B e w))
+
+-- ---- the cells of the rectangle are the product of its sides
+pub cells-are : (j : Job) → cells j ≡ across (reach (entries (j .row0)) (box j)) * across (reach (entries (j .row1)) (box j))
+unfolding countOf
+cells-are j = ap (λ (n : ℕ). across (reach (entries (j .row0)) (box j)) * n) (mul-one (across (reach (entries (j .row1)) (box j))))
 
 -- ---- the w
 -- a quotient of what is not negative is not negative

@@ -2,26 +2,23 @@
 use mathlib.Core.Path.{_≡_, refl, sym, ap, ap₂, subst, _∙_}
 use mathlib.Core.Logic.{_⊎_, inl, inr, ⊎-elim}
 use mathlib.Core.List.{List}
-use Prim.Native.Nat.{ℕ, zero, suc, _*_, _<_, _≤_}
+use Prim.Native.Nat.{ℕ, zero, suc, _<_, _≤_}
 use native.Mathlib.Omega.{arith}
 use native.Mathlib.Decide.{decLe}
 use lib.ListN.{length}
-use lib.IntN.{ℤ, pos}
+use lib.IntN.{ℤ}
 use Rattle.space.specs.declared.Vector.{Vector}
 use Rattle.space.specs.Vectors.{entries, plusOf, minusOf}
 use Rattle.space.specs.Order.{Before, AtMost}
-use Rattle.boxes.specs.Boxes.{Box}
-use Rattle.space.proofs.Parts.{int}
 use Rattle.space.proofs.VectorLaws.{plus-minus, vector-of}
 use Rattle.space.proofs.MultipleLaws.{times-cancel}
 use Rattle.space.proofs.OrderLaws.{before-irreflexive, before-trans}
-use Rattle.boxes.proofs.ExtremeLaws.{least-unique, greatest-unique}
 use Rattle.job.specs.declared.Job.{Job}
 use Rattle.job.specs.Limits.{limits}
 use Rattle.job.proofs.Refusing.{first-unique, acceptable}
-use Rattle.mapping.specs.Mapping.{hop, delays}
+use Rattle.mapping.specs.Mapping.{hop}
 use Rattle.mapping.proofs.Courses.{hop-nonzero}
-use Rattle.verdict.specs.Rules.{Meeting, Kept, Keeps, Span, Sizes}
+use Rattle.verdict.specs.Rules.{Meeting, Kept, Keeps, Sizes}
 use Rattle.verdict.specs.Replies.{Lowest, FirstPair, turn, Claims, Says}
 use Rattle.verdict.specs.declared.Size.{Size}
 use Rattle.verdict.specs.declared.Pair.{Pair}
@@ -100,21 +97,9 @@ link-unique j c c′ p q = made (c .stream) (c′ .stream) (c .pair) (c′ .pair
         rw (e, u, h)
 
 -- the sizes
-span-unique : {h : List ℤ} {B : Box} {n m : ℕ} → Span h B n → Span h B m → n ≡ m
-span-unique {n = n} {m} p q =
-    let l = least-unique (p .least) (q .least) in
-    let g = greatest-unique (p .greatest) (q .greatest) in
-    count n m (p .numbers ∙ rw (l, g) (sym (q .numbers)))
-  where
-    count : (n m : ℕ) → pos n ≡ pos m → n ≡ m
-    count n m e = omega int
-
 sizes-unique : (j : Job) (z z′ : Size) → Sizes j z → Sizes j z′ → z ≡ z′
 sizes-unique j z z′ p q =
-    let a = p .cells ∙ ap₂ _*_ (span-unique (p .first) (q .first)) (span-unique (p .second) (q .second)) ∙ sym (q .cells) in
-    let b = span-unique (p .ticks) (q .ticks) in
-    let c = p .room ∙ ap (λ (n : ℕ). n * delays j (j .m)) a ∙ sym (q .room) in
-    made (z .cells) (z .ticks) (z .room) (z′ .cells) (z′ .ticks) (z′ .room) a b c
+    made (z .cells) (z .ticks) (z .room) (z′ .cells) (z′ .ticks) (z′ .room) (p .cells ∙ sym (q .cells)) (p .ticks ∙ sym (q .ticks)) (p .room ∙ sym (q .room))
   where
     made : (a b c a′ b′ c′ : ℕ) → a ≡ a′ → b ≡ b′ → c ≡ c′ → _≡_ {A = Size} (record { cells = a; ticks = b; room = c }) (record { cells = a′; ticks = b′; room = c′ })
     made a b c a′ b′ c′ e f h = rw (e, f, h)

@@ -1,17 +1,18 @@
 -- 'Meaning of the verdict': precedence, hop, cell and link.
 use mathlib.Core.Path.{_≡_}
 use mathlib.Core.List.{List}
-use Prim.Native.Nat.{ℕ, zero, suc, _+_, _*_, _<_, _∣_}
-use lib.IntN.{ℤ, pos, natAbs, _+ℤ_, _-ℤ_, _*ℤ_}
+use Prim.Native.Nat.{ℕ, zero, suc, _*_, _<_, _∣_}
+use lib.IntN.{ℤ, pos, natAbs, _*ℤ_}
 use lib.Signed.{_≤ℤ_}
-use Rattle.space.specs.Vectors.{entries, minusOf, timesOf}
+use Rattle.space.specs.Vectors.{minusOf, timesOf}
 use Rattle.space.specs.Order.{Before}
-use Rattle.boxes.specs.Boxes.{Box, In, Least, Greatest}
+use Rattle.boxes.specs.Boxes.{Box, In}
 use Rattle.job.specs.declared.Job.{Job}
 use Rattle.job.specs.Limits.{Acceptable}
-use Rattle.mapping.specs.Mapping.{box, stream, along, H, S, g, Stationary, hop, delay, delays}
+use Rattle.mapping.specs.Mapping.{box, stream, along, H, S, g, Stationary, hop, delay}
 use Rattle.mapping.specs.Collisions.{senders, Collide}
 use Rattle.verdict.specs.declared.Size.{Size}
+use Rattle.mapping.specs.Frames.{cells, ticks, room}
 
 -- 'Precedence: Hd ≥ 1 for every stream'
 abbrev pub Ahead : Job → ℕ → Type 0
@@ -54,20 +55,8 @@ abbrev pub Keeps : Job → ℕ → Type 0
 Keeps j zero = Unit {0}
 Keeps j (suc n) = Keeps j n × Kept j n
 
--- 'from least to greatest' over the box, a row's products are n numbers
-pub record Span (h : List ℤ) (B : Box) (n : ℕ) : Type 0 where
-  pub low : ℤ
-  pub high : ℤ
-  pub least : Least h B low
-  pub greatest : Greatest h B high
-  pub numbers : pos n ≡ high -ℤ low +ℤ pos 1
-
--- 'Cells are the whole rectangle from least to greatest Sx; ticks run from 0 to greatest Hx - least Hx; room R = cells × sum of the w'
+-- cells, ticks and room of the job's array
 pub record Sizes (j : Job) (z : Size) : Type 0 where
-  pub rows : ℕ
-  pub columns : ℕ
-  pub first : Span (entries (j .row0)) (box j) rows
-  pub second : Span (entries (j .row1)) (box j) columns
-  pub cells : z .cells ≡ rows * columns
-  pub ticks : Span (entries (j .time)) (box j) (z .ticks)
-  pub room : z .room ≡ z .cells * delays j (j .m)
+  pub cells : z .cells ≡ cells j
+  pub ticks : z .ticks ≡ ticks j
+  pub room : z .room ≡ room j

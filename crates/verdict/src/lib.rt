@@ -10,10 +10,11 @@ use space::Vector;
 ghost use mathlib.Core.Path.{_≡_};
 ghost use Prim.Native.Nat.{ℕ, _<_, _≤_};
 ghost use Rattle.space.specs.Vectors.{entries, Sized};
-ghost use Rattle.boxes.specs.Boxes.{Solid, boxOf};
+ghost use Rattle.boxes.specs.Boxes.{Solid, boxOf, across};
 ghost use Rattle.job.specs.Limits.{Acceptable};
 ghost use Rattle.mapping.specs.Mapping.{delays};
-ghost use Rattle.verdict.specs.Rules.{Ahead, Span, Sizes};
+ghost use Rattle.mapping.specs.Frames.{reach};
+ghost use Rattle.verdict.specs.Rules.{Ahead, Sizes};
 ghost use Rattle.verdict.specs.Replies.{Says};
 
 // How many cells and ticks an accepted array has, and how many register places.
@@ -76,7 +77,7 @@ pub fn verdict_of(j: Job) -> Verdict
 fn span(h: Vector, b: Bounds) -> u64
     requires { ⌜ Sized 127 (entries h) × Sized 127 (entries (b .low)) × Sized 127 (entries (b .high)) × Solid (boxOf b) ⌝ }
     ensures few { λ r. ⌜ r ≤ 129033 ⌝ }
-    ensures is { λ r. ⌜ Span (entries h) (boxOf b) r ⌝ }
+    ensures is { λ r. ⌜ r ≡ across (reach (entries h) (boxOf b)) ⌝ }
 {
     let least = boxes::least(h, b);
     let greatest = boxes::greatest(h, b);

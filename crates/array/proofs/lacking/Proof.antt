@@ -4,8 +4,7 @@ use mathlib.Core.Logic.{inl, inr}
 use Prim.Native.Nat.{ℕ, _*_}
 use native.Mathlib.Nat.{add-zero}
 use native.Mathlib.Omega.{arith}
-use Rattle.space.proofs.VectorLaws.{sized-up}
-use Rattle.mapping.proofs.Fits.{low-sized, high-sized}
+use Rattle.mapping.proofs.Fits.{walkable}
 use Rattle.loops.specs.Tables.{points}
 use Rattle.loops.proofs.LoopLaws.{few-streams, few-points}
 use Rattle.array.proofs.ReplyLaws.{lengths-differ, lengths-same}
@@ -13,7 +12,7 @@ use Rattle.array.proofs.lacking.Statement.{statement}
 use Rattle.array.proofs.lacking.Tie as tie
 
 count-requires : tie.Need-count-requires
-count-requires c κs = (sized-up (omega arith) (low-sized (c .args .j) (c .pre)), sized-up (omega arith) (high-sized (c .args .j) (c .pre)))
+count-requires c κs = walkable (c .pre)
 
 place-in-table-requires : tie.Need-place-in-table-requires
 place-in-table-requires c κs = (few-streams (c .before .pre), omega (arith, c .count .ensures, few-points (c .before .pre)), omega arith)

@@ -10,7 +10,6 @@ use Rattle.loops.proofs.LoopLaws.{few-points}
 use Rattle.array.specs.declared.Reply.the-variants.{Ticks}
 use Rattle.array.specs.Runs.{cleared, runChecks}
 use Rattle.array.specs.Lacking.{Lacks}
-use Rattle.frame.proofs.FrameLaws.{sizes-room, sizes-ticks}
 use Rattle.array.proofs.RunLaws.{clear-size, ran-as}
 use Rattle.array.proofs.ReplyLaws.{not-accepted, accepted-limits, accepted-frames, passed, lacks-refuses, tables-tabled, places-roomy}
 use Rattle.array.proofs.run_of.Statement.{statement}
@@ -89,8 +88,8 @@ returns-3 c =
     let z = b .before .before .before .before .before .v .given .0 .0 in
     let s = says (b .before .before .before .before) in
     let p = taken b in
-    let cleared-all = c .before .before .before .before .before .before .before .before .before .before .clear .ensures ∙ ap (λ (n : ℕ). cleared n (now (a .places))) (sizes-room (a .j) (accepted-limits s) z (s .claim)) in
-    (z, record { accepted = s; first = p .0 }, p .1, ran-as cleared-all (p .1 ∙ sizes-ticks (a .j) (accepted-limits s) z (s .claim)) (c .before .before .before .before .all-ticks .ensures))
+    let cleared-all = c .before .before .before .before .before .before .before .before .before .before .clear .ensures ∙ ap (λ (n : ℕ). cleared n (now (a .places))) (s .claim .room) in
+    (z, record { accepted = s; first = p .0 }, p .1, ran-as cleared-all (p .1 ∙ s .claim .ticks) (c .before .before .before .before .all-ticks .ensures))
 
 pub run-of-spec : {M : Type 1} → statement M
 run-of-spec = tie.close (tie.spec verdict-of-requires enum-known-v returns lacking-requires enum-known-reply returns-2 frame-of-requires slice-aggregate-fill-timetable fill-timetable-requires clear-requires slice-aggregate-all-ticks all-ticks-requires same-length same-length-2 returns-3)

@@ -6,10 +6,11 @@ use native.Mathlib.Omega.{arith}
 use Rattle.space.specs.Vectors.{entries}
 use Rattle.space.proofs.Machine.{fits-under}
 use Rattle.space.proofs.VectorLaws.{sized-up}
-use Rattle.mapping.proofs.Fits.{solid, time-sized, row0-sized, row1-sized, low-sized, high-sized}
-use Rattle.frame.proofs.FrameLaws.{held-is, small-ends, across-small, cells-are}
+use Rattle.mapping.proofs.Fits.{solid, time-sized, row0-sized, row1-sized, low-sized, high-sized, walkable}
+use Rattle.frame.proofs.FrameLaws.{held-is, small-ends, across-small}
 use Rattle.frame.proofs.frame_of.Statement.{statement}
 use Rattle.frame.proofs.frame_of.Tie as tie
+use Rattle.verdict.proofs.SizeLaws.{cells-are}
 
 reach-of-requires : tie.Need-reach-of-requires
 reach-of-requires c κs =
@@ -33,7 +34,7 @@ count-requires : tie.Need-count-requires
 count-requires c κs =
     let j = c .before .before .before .before .args .j in
     let a = c .before .before .before .before .pre .0 in
-    (sized-up (omega arith) (low-sized j a), sized-up (omega arith) (high-sized j a))
+    walkable a
 
 mul-t7 : tie.Need-mul-t7
 mul-t7 c =
@@ -64,7 +65,7 @@ returns c =
       low0 = held-is (first .low) (s0 .0);
       low1 = held-is (second .low) (s1 .0);
       columns = second .count;
-      cells = ap₂ (λ (x y : ℕ). x * y) (first .count) (second .count) ∙ sym (cells-are j a);
+      cells = ap₂ (λ (x y : ℕ). x * y) (first .count) (second .count) ∙ sym (cells-are j);
       bands = c .before .before .before .bands-of .ensures;
     }
 

@@ -7,7 +7,7 @@ use Rattle.boxes.specs.Boxes.{pointOf}
 use Rattle.space.proofs.VectorLaws.{sized-up}
 use Rattle.mapping.specs.Mapping.{box, H}
 use Rattle.mapping.proofs.Fits.{time-sized}
-use Rattle.frame.specs.Frames.{tickOf}
+use Rattle.mapping.specs.Frames.{tickOf}
 use Rattle.frame.proofs.FrameLaws.{held-is, fits-limit, small-ends, point-sized, product-sized}
 use Rattle.frame.proofs.tick_at.Statement.{statement}
 use Rattle.frame.proofs.tick_at.Tie as tie

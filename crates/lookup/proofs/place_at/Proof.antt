@@ -7,8 +7,7 @@ use native.Mathlib.Nat.{le-of-eq}
 use native.Mathlib.Omega.{arith}
 use borrow.Author.Needs.{needs}
 use lib.Dec.{eqb}
-use Rattle.space.proofs.VectorLaws.{sized-up}
-use Rattle.mapping.proofs.Fits.{low-sized, high-sized}
+use Rattle.mapping.proofs.Fits.{walkable}
 use Rattle.loops.specs.Tables.{points}
 use Rattle.tick.specs.Ticks.{lastOf, works, pointAt}
 use Rattle.lookup.proofs.place_at.Statement.{statement}
@@ -35,7 +34,7 @@ sub-k c = search needs
 point-requires : tie.Need-point-requires Inv-loop μ-loop
 point-requires c κs =
     let a = c .before .before .pre .0 in
-    (sized-up (omega arith) (low-sized (c .before .before .args .j) a), sized-up (omega arith) (high-sized (c .before .before .args .j) a), omega (arith, c .loop-test .taken, c .before .loop .inv .0))
+    (walkable a .0, walkable a .1, omega (arith, c .loop-test .taken, c .before .loop .inv .0))
 
 tick-at-requires : tie.Need-tick-at-requires Inv-loop μ-loop
 tick-at-requires c κs = (c .before .before .before .pre .0, c .before .before .before .pre .1, omega (arith, c .before .loop-test .taken, c .before .before .loop .inv .0), c .point .ensures)

@@ -1,11 +1,9 @@
 -- The verdict's refusal, or the place that the scan finds.
 use mathlib.Core.Path.{_≡_, sym, ap, subst, _∙_}
 use mathlib.Core.Option.{some}
-use native.Mathlib.Omega.{arith}
 use borrow.Author.Needs.{needs}
 use Rattle.boxes.specs.Boxes.{foundOf}
-use Rattle.space.proofs.VectorLaws.{sized-up}
-use Rattle.mapping.proofs.Fits.{low-sized, high-sized}
+use Rattle.mapping.proofs.Fits.{walkable}
 use Rattle.verdict.specs.Replies.{Says}
 use Rattle.verdict.specs.declared.Verdict.the-variants.{Accepted}
 use Rattle.tick.specs.Ticks.{works, pointAt}
@@ -44,7 +42,7 @@ point-requires : tie.Need-point-requires
 point-requires c κs =
     let a = c .before .before .before .before .before .before .before .before .before .args in
     let g = accepted-limits (says (c .before .before .before .before .before)) in
-    (sized-up (omega arith) (low-sized (a .j) g), sized-up (omega arith) (high-sized (a .j) g), last-below (works (a .j) (a .t) (a .x)) _ _ (found c))
+    (walkable g .0, walkable g .1, last-below (works (a .j) (a .t) (a .x)) _ _ (found c))
 
 enum-told : tie.Need-enum-told
 enum-told c = search needs

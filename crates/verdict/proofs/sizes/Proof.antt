@@ -1,5 +1,5 @@
 -- Each span is at most 129,033 and the sum of the w at most 30,480.
-use mathlib.Core.Path.{refl, ap}
+use mathlib.Core.Path.{sym, ap₂, _∙_}
 use mathlib.Core.List.{List}
 use Prim.Native.Nat.{_*_, _≤_}
 use native.Mathlib.Nat.{mul-le-mul}
@@ -13,6 +13,7 @@ use Rattle.job.specs.Limits.{Acceptable}
 use Rattle.mapping.proofs.Fits.{time-sized, row0-sized, row1-sized}
 use Rattle.verdict.proofs.sizes.Statement.{statement}
 use Rattle.verdict.proofs.sizes.Tie as tie
+use Rattle.verdict.proofs.SizeLaws.{cells-are}
 
 -- what a span asks of a row of an acceptable job
 asked : {j : Job} {h : List ℤ} → Acceptable j → Sized 127 h → Sized 127 h × Sized 127 (entries (j .bounds .low)) × Sized 127 (entries (j .bounds .high)) × Solid (boxOf (j .bounds))
@@ -46,15 +47,9 @@ mul-room c = fits-under (mul-le-mul (cells-few (c .before .before)) (c .all-dela
 
 returns : tie.Need-returns
 returns c =
-    record {
-      rows = c .before .before .before .span .result;
-      columns = c .before .before .span2 .result;
-      first = c .before .before .before .span .ensures .1;
-      second = c .before .before .span2 .ensures .1;
-      cells = refl;
-      ticks = c .before .span3 .ensures .1;
-      room = ap (λ n. c .before .before .before .span .result * c .before .before .span2 .result * n) (c .all-delays .ensures .1);
-    }
+    let j = c .before .before .before .before .before .before .before .before .args .j in
+    let cells = ap₂ _*_ (c .before .before .before .span .ensures .1) (c .before .before .span2 .ensures .1) ∙ sym (cells-are j) in
+    record { cells = cells; ticks = c .before .span3 .ensures .1; room = ap₂ _*_ cells (c .all-delays .ensures .1) }
 
 pub sizes-spec : {M : Type 1} → statement M
 sizes-spec = tie.close (tie.spec span-requires span-requires-2 mul-cells span-requires-3 all-delays-requires mul-room returns)

@@ -8,6 +8,7 @@ use Rattle.boxes.proofs.ExtremeLaws.{least-size}
 use Rattle.verdict.proofs.SizeLaws.{greatest-size, least-greatest, span-is}
 use Rattle.verdict.proofs.span.Statement.{statement}
 use Rattle.verdict.proofs.span.Tie as tie
+use mathlib.Core.Path.{refl}
 
 least-requires : tie.Need-least-requires
 least-requires c κs = search needs
@@ -33,7 +34,7 @@ add-result c = rw (read (apart c)) (fits-under {b = 129033} (omega (arith, apart
 
 returns : tie.Need-returns
 returns c =
-    rw (read (apart c)) (omega (arith, apart c .sized .size), span-is (c .before .least .ensures) (c .greatest .ensures))
+    rw (read (apart c)) (omega (arith, apart c .sized .size), span-is (c .before .least .ensures) (c .greatest .ensures) refl (c .before .before .pre .3))
 
 pub span-spec : {M : Type 1} → statement M
 span-spec = tie.close (tie.spec least-requires greatest-requires sub-result cast-result add-result returns)

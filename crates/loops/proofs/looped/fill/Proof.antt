@@ -7,7 +7,8 @@ use Rattle.space.specs.Vectors.{entries}
 use Rattle.boxes.specs.Boxes.{pointOf, PointAt}
 use Rattle.mapping.specs.Mapping.{box}
 use Rattle.loops.specs.Tables.{points as pointsOf}
-use Rattle.loops.proofs.LoopLaws.{LoopedTo, walkable, some-point, stands-in, few-points, looped-start, looped-step, looped-end}
+use Rattle.loops.proofs.LoopLaws.{LoopedTo, few-points, looped-start, looped-step, looped-end}
+use Rattle.mapping.proofs.Fits.{walkable, some-point, stands-in}
 use Rattle.loops.proofs.looped.fill.Statement.{statement}
 use Rattle.loops.proofs.looped.fill.Tie as tie
 

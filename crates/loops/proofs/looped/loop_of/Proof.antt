@@ -6,11 +6,10 @@ use native.Mathlib.Omega.{arith}
 use lib.ListN.{length}
 use denote.Ref.{now}
 use borrow.Author.Needs.{needs}
-use Rattle.space.proofs.VectorLaws.{sized-up}
 use Rattle.job.specs.Refusals.{First, check, done}
 use Rattle.job.specs.Limits.{limits, Acceptable}
 use Rattle.job.proofs.Refusing.{accepted, stop-first}
-use Rattle.mapping.proofs.Fits.{low-sized, high-sized}
+use Rattle.mapping.proofs.Fits.{walkable}
 use Rattle.loops.specs.Tables.{points}
 use Rattle.loops.proofs.LoopLaws.{few-streams, few-points, table-refused, tables-taken}
 use Rattle.loops.proofs.looped.loop_of.Statement.{statement}
@@ -29,7 +28,7 @@ good : (c : tie.Else1) → Acceptable (c .before .before .before .before .args .
 good c = accepted (c .before .before .before .before .args .j) (subst (First (limits (c .before .before .before .before .args .j))) (c .if1 .left) (c .before .number .ensures))
 
 count-requires : tie.Need-count-requires
-count-requires c κs = let j = c .before .before .before .before .args .j in (sized-up (omega arith) (low-sized j (good c)), sized-up (omega arith) (high-sized j (good c)))
+count-requires c κs = walkable (good c)
 
 place-in-table-requires : tie.Need-place-in-table-requires
 place-in-table-requires c κs = (few-streams (good (c .before)), omega (arith, few-points (good (c .before)), c .count .ensures), omega arith)

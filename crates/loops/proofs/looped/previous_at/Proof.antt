@@ -7,7 +7,7 @@ use Rattle.boxes.specs.Boxes.{backOf}
 use Rattle.job.specs.declared.Stream.{Stream}
 use Rattle.mapping.specs.Mapping.{box}
 use Rattle.mapping.proofs.Fits.{along-sized}
-use Rattle.loops.proofs.LoopLaws.{walkable, stands-in}
+use Rattle.mapping.proofs.Fits.{walkable, stands-in}
 use Rattle.loops.proofs.looped.previous_at.Statement.{statement}
 use Rattle.loops.proofs.looped.previous_at.Tie as tie
 

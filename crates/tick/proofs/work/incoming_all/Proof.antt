@@ -5,7 +5,7 @@ use native.Mathlib.Omega.{arith}
 use lib.ListN.{length}
 use denote.Ref.{now}
 use Rattle.loops.proofs.LoopLaws.{few-streams, Firsts, firsts-step}
-use Rattle.frame.specs.Frames.{from as fromOf}
+use Rattle.mapping.specs.Frames.{from as fromOf}
 use Rattle.tick.specs.Ticks.{incoming}
 use Rattle.frame.specs.Framing.{Banded}
 use Rattle.tick.proofs.LendingLaws.{band-is, from-first, band-fits, band-next}
