@@ -41,7 +41,7 @@ matricesFrom e n m = streamsFrom e n + m * (e * n + 4)
 abbrev pub totalOf : ℕ → ℕ → ℕ → ℕ → ℕ
 totalOf e n k m = matricesFrom e n m + (1 + k) * (e * n)
 
--- 'bytes 0-1 form; 2 n; 3 k; 4 m; 5 zero; 6-7 offset of the box; 8-9 of the streams; 10-11 of the matrices; 12-13 total length; 14-15 zero'
+-- 'bytes 0-1 form, always 1' (the form with entries of e bytes is e); '2 n; 3 k; 4 m; 5 zero; 6-7 offset of the box; 8-9 of the streams; 10-11 of the matrices; 12-13 total length; 14-15 zero'
 unfoldable pub headerOf : ℕ → ℕ → ℕ → ℕ → List ℕ
 headerOf e n k m =
     littleEndian 2 e ++ (n ∷ k ∷ m ∷ 0 ∷ []) ++ littleEndian 2 16 ++ littleEndian 2 (streamsFrom e n) ++ littleEndian 2 (matricesFrom e n m)
