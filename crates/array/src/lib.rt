@@ -1,4 +1,4 @@
-// The array: one tick, and a run of all ticks.
+// The array: a run of all ticks, and a single tick.
 
 use frame::Frame;
 use job::Job;

@@ -8,7 +8,7 @@ use native.Mathlib.Omega.{arith}
 use lib.ListN.{length}
 use lib.IntN.{ℤ, pos, negsuc, negℤ, _+ℤ_, _-ℤ_, _*ℤ_}
 use lib.Signed.{_≤ℤ_, ltZ, ≤ℤ-refl}
-use Rattle.space.specs.Numbers.{Size}
+use Rattle.space.specs.Numbers.{Size, entry, coordinate}
 use Rattle.space.specs.Vectors.{dotOf, timesOf, Sized}
 use Rattle.boxes.specs.Boxes.{Box, In, Solid, Least, Greatest, cornerOf, leastOf, greatestOf}
 use Rattle.space.proofs.Parts.{int, sum, difference, opposite, parts, ring⊖, int⊖}
@@ -100,6 +100,13 @@ greatest-is h B e w =
 -- its size
 pub least-size : {a : ℕ} (b : ℕ) {h : List ℤ} {B : Box} {r : ℤ} → Sized a h → SidesSized b B → Least h B r → Size (length h * (a * b)) r
 least-size {a} b {h} {B} {r} p w L = subst (Size (length h * (a * b))) (L .met .2) (dot-size p (in-sized b B (L .met .0) w (L .met .1)))
+
+pub greatest-size : {a : ℕ} (b : ℕ) {h : List ℤ} {B : Box} {r : ℤ} → Sized a h → SidesSized b B → Greatest h B r → Size (length h * (a * b)) r
+greatest-size {a} b {h} {B} p w G = subst (Size (length h * (a * b))) (G .met .2) (dot-size p (in-sized b B (G .met .0) w (G .met .1)))
+
+-- of four entries at the largest limits of a job
+pub ends-small : {h : List ℤ} {B : Box} {l u : ℤ} → length h ≡ 4 → Sized entry h → SidesSized coordinate B → Least h B l → Greatest h B u → Size 8376324 l × Size 8376324 u
+ends-small e p w L G = (rw e at (least-size coordinate p w L), rw e at (greatest-size coordinate p w G))
 
 -- ---- there is one of each
 pub least-unique : {h : List ℤ} {B : Box} {r s : ℤ} → Least h B r → Least h B s → r ≡ s

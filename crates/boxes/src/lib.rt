@@ -6,10 +6,10 @@ ghost use mathlib.Core.List.{List, [], _∷_, map, zipWith};
 ghost use Prim.Native.Nat.{ℕ, _+_, _*_, _<_, _≤_};
 ghost use lib.IntN.{ℤ, pos};
 ghost use lib.Signed.{ltZ, _≤ℤ_};
-ghost use Rattle.space.specs.Numbers.{Size, Tells, steps, coordinate, difference, limit};
+ghost use Rattle.space.specs.Numbers.{Size, Tells, steps, coordinate, difference, entry, limit};
 ghost use Rattle.space.specs.Vectors.{entries, dotOf, plusOf, Sized};
 ghost use Rattle.space.specs.Order.{AtMost};
-ghost use Rattle.boxes.specs.Boxes.{In, Apart, Solid, boxOf, across, countOf, placeOf, pointOf, PointAt, backOf, foundOf, Least, Greatest};
+ghost use Rattle.boxes.specs.Boxes.{In, Apart, Solid, boxOf, across, countOf, placeOf, pointOf, PointAt, backOf, foundOf, Least, Greatest, Reaches};
 
 // The bounds of a box, l and u of each dimension. An unused dimension is 0..0.
 pub struct Bounds {
@@ -21,6 +21,13 @@ pub struct Bounds {
 pub enum Found {
     At(u64),
     Nowhere,
+}
+
+// The products of a row over the box: the least, the greatest, and how many numbers there are from the one to the other.
+pub struct Reach {
+    pub low: i64,
+    pub high: i64,
+    pub count: u64,
 }
 
 // A whole number, not negative, for each dimension.
@@ -136,6 +143,20 @@ pub fn greatest(h: Vector, b: Bounds) -> i64
     ensures { λ r. ⌜ Greatest (entries h) (boxOf b) r ⌝ }
 {
     0 - least(space::times(-1, h), b)
+}
+
+// The reach of a row.
+pub fn reach_of(h: Vector, b: Bounds) -> Reach
+    requires { ⌜ Sized entry (entries h) × Sized coordinate (entries (b .low)) × Sized coordinate (entries (b .high)) × Solid (boxOf b) ⌝ }
+    ensures { λ r. ⌜ Reaches (entries h) (boxOf b) r ⌝ }
+{
+    let low = least(h, b);
+    let high = greatest(h, b);
+    Reach {
+        low,
+        high,
+        count: steps_above(low, high + 1),
+    }
 }
 
 // The differences of two points of the box, themselves a box.

@@ -11,20 +11,20 @@ use lib.IntN.{ℤ}
 use lib.Signed.{_≤ℤ_}
 use Rattle.space.specs.Numbers.{Size, limit, entry, coordinate, steps}
 use Rattle.space.specs.Vectors.{entries, dotOf, Sized}
-use Rattle.boxes.specs.Boxes.{Box, In, Solid, across, countOf, placeOf, pointOf, leastOf, greatestOf, Least, Greatest}
+use Rattle.boxes.specs.Boxes.{In, Solid, across, countOf, placeOf, pointOf, leastOf, greatestOf, Least, Greatest, reach}
 use Rattle.space.proofs.Ints.{size-up}
 use Rattle.space.proofs.Machine.{held, as-held}
-use Rattle.boxes.proofs.BoxLaws.{SidesSized, across-size, in-sized, point-in, place-below, steps-below, sides-sized}
-use Rattle.boxes.proofs.ExtremeLaws.{least-is, greatest-is, least-size}
+use Rattle.boxes.proofs.BoxLaws.{in-sized, point-in, place-below, steps-below, sides-sized}
+use Rattle.boxes.proofs.ExtremeLaws.{least-is, greatest-is}
 use Rattle.space.proofs.VectorLaws.{sized-up, dot-size}
 use Rattle.job.specs.declared.Job.{Job}
 use Rattle.job.specs.Limits.{Acceptable}
 use Rattle.mapping.specs.Mapping.{box, H, S}
 use Rattle.mapping.proofs.Fits.{solid, row0-sized, row1-sized, low-sized, high-sized}
-use Rattle.verdict.proofs.SizeLaws.{greatest-size, cells-are}
+use Rattle.verdict.proofs.SizeLaws.{cells-are, across-small}
 use Rattle.loops.specs.Tables.{points}
 use Rattle.frame.specs.Framing.{Timed}
-use Rattle.mapping.specs.Frames.{reach, rectangle, cells, clock, ticks, tickOf, cellOf}
+use Rattle.mapping.specs.Frames.{rectangle, cells, clock, ticks, tickOf, cellOf}
 
 -- ---- a small number that is read back
 pub held-limit : {z v : ℤ} → v ≡ z → Size limit z → held v ≡ z
@@ -37,18 +37,11 @@ held-is e p = held-limit e (size-up (omega arith) p)
 pub fits-limit : {z v : ℤ} → v ≡ z → Size 8376324 z → Size limit (held v)
 fits-limit e p = subst (Size limit) (sym (held-is e p)) (size-up (omega arith) p)
 
--- ---- a row's ends are small at the largest limits of a job, and so is their distance
-pub ends-small : {h : List ℤ} {B : Box} {l u : ℤ} → length h ≡ 4 → Sized entry h → SidesSized coordinate B → Least h B l → Greatest h B u → Size 8376324 l × Size 8376324 u
-ends-small e p w L G = (rw e at (least-size coordinate p w L), rw e at (greatest-size coordinate p w G))
-
 -- a place in two rows, without the ones and zeros of the definition
 flat : (r n c : ℕ) → r * (n * 1) + (c * 1 + 0) ≡ r * n + c
 flat r n c = rw (mul-one n, mul-one c, add-zero c)
 
 module _ (j : Job) (a : Acceptable j) where
-  pub small-ends : (h : List ℤ) → length h ≡ 4 → Sized 127 h → Size 8376324 (leastOf h (box j)) × Size 8376324 (greatestOf h (box j))
-  small-ends h e p = ends-small e (sized-up (omega arith) p) (sides-sized (j .bounds) (low-sized j a) (high-sized j a)) (least-is h (box j) e (solid j a)) (greatest-is h (box j) e (solid j a))
-
   -- ---- the ends of a row of four entries
   pub row-least : (h : List ℤ) → length h ≡ 4 → Least h (box j) (leastOf h (box j))
   row-least h e = least-is h (box j) e (solid j a)
@@ -88,10 +81,6 @@ module _ (j : Job) (a : Acceptable j) where
       let h = row-greatest (entries (j .row1)) refl in
       (subst (λ (z : ℤ). leastOf (entries (j .row0)) (box j) ≤ℤ z) (g .met .2) (r .below (g .met .0) (g .met .1)), (subst (λ (z : ℤ). leastOf (entries (j .row1)) (box j) ≤ℤ z) (h .met .2) (q .below (h .met .0) (h .met .1)), tt))
 
-  -- ---- the cells are few
-  pub across-small : (h : List ℤ) → length h ≡ 4 → Sized 127 h → across (reach h (box j)) ≤ 16752649
-  across-small h e p = let s = small-ends h e p in across-size (reach h (box j)) (s .0) (s .1)
-
   -- ---- the points are small
   pub point-sized : (k : ℕ) → k < points j → Sized coordinate (pointOf (box j) k)
   point-sized k lk = in-sized coordinate (box j) (pointOf (box j) k) (sides-sized (j .bounds) (low-sized j a) (high-sized j a)) (point-in (box j) k lk)
@@ -106,7 +95,7 @@ module _ (j : Job) (a : Acceptable j) where
   cell-is k = flat _ (across (reach (entries (j .row1)) (box j))) _
 
   pub cells-small : cells j ≤ 16752649 * 16752649
-  cells-small = le-trans (le-of-eq (cells-are j)) (mul-le-mul (across-small (entries (j .row0)) refl (row0-sized j a)) (across-small (entries (j .row1)) refl (row1-sized j a)))
+  cells-small = le-trans (le-of-eq (cells-are j)) (mul-le-mul (across-small j a (entries (j .row0)) refl (row0-sized j a)) (across-small j a (entries (j .row1)) refl (row1-sized j a)))
 
 -- ---- the timetable
 -- one more tick is written

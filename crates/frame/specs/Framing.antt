@@ -3,29 +3,21 @@ use mathlib.Core.Path.{_≡_}
 use mathlib.Core.List.{List, [], _∷_}
 use Prim.Native.Nat.{ℕ, _<_, _≤_}
 use lib.ListN.{length, getD}
-use lib.IntN.{ℤ}
 use Rattle.space.specs.Vectors.{entries}
-use Rattle.boxes.specs.Boxes.{Box, across, leastOf, greatestOf}
+use Rattle.boxes.specs.Boxes.{across, leastOf, reach}
 use Rattle.job.specs.declared.Job.{Job}
 use Rattle.mapping.specs.Mapping.{box, hop}
 use Rattle.verdict.specs.Rules.{Ahead}
 use Rattle.bands.specs.Bands.{rectangleOf, hopOf}
 use Rattle.bands.specs.declared.Band.{Band}
 use Rattle.loops.specs.Tables.{points}
-use Rattle.mapping.specs.Frames.{reach, rectangle, cells, clock, ticks, tickOf, w}
+use Rattle.mapping.specs.Frames.{rectangle, cells, clock, ticks, tickOf, w}
 use Rattle.frame.specs.declared.Frame.{Frame}
 use Rattle.frame.specs.declared.Bands.{Bands}
-use Rattle.frame.specs.declared.Reach.{Reach}
 
 -- precedence over all streams
 abbrev pub AllAhead : Job → Type 0
 AllAhead j = (s : ℕ) → s < j .m → Ahead j s
-
--- r is the reach of a row over the box
-pub record Reaches (h : List ℤ) (B : Box) (r : Reach) : Type 0 where
-  pub low : r .low ≡ leastOf h B
-  pub high : r .high ≡ greatestOf h B
-  pub count : r .count ≡ across (reach h B)
 
 -- b is the shape of the band of stream s
 pub record Banded (j : Job) (s : ℕ) (b : Band) : Type 0 where

@@ -1,19 +1,19 @@
 // The numbers of a job's array, worked out once: the rectangle of cells, the clock's start, the streams' bands; and the tick and the cell of a point.
 use bands::Band;
-use boxes::Bounds;
+use boxes::Reach;
 use job::Job;
 use space::Vector;
 ghost use mathlib.Core.Path.{_≡_};
 ghost use Prim.Native.Nat.{ℕ, _<_, _≤_};
 ghost use lib.ListN.{length, getD};
-ghost use Rattle.space.specs.Numbers.{entry, coordinate};
-ghost use Rattle.space.specs.Vectors.{entries, Sized};
-ghost use Rattle.boxes.specs.Boxes.{Solid, boxOf, pointOf};
+ghost use Rattle.space.specs.Numbers.{entry};
+ghost use Rattle.space.specs.Vectors.{entries};
+ghost use Rattle.boxes.specs.Boxes.{pointOf, Reaches};
 ghost use Rattle.job.specs.Limits.{Acceptable};
 ghost use Rattle.mapping.specs.Mapping.{box};
 ghost use Rattle.loops.specs.Tables.{points as pointsOf};
 ghost use Rattle.mapping.specs.Frames.{tickOf, cellOf, cells};
-ghost use Rattle.frame.specs.Framing.{AllAhead, Reaches, Framed, Banded, bandAt, AllBanded, Timed};
+ghost use Rattle.frame.specs.Framing.{AllAhead, Framed, Banded, bandAt, AllBanded, Timed};
 
 pub struct Frame {
     pub points: u64,
@@ -33,36 +33,15 @@ pub struct Bands {
     pub band3: Band,
 }
 
-// The products of a row over the box: the least, the greatest, and how many numbers there are from the one to the other.
-pub struct Reach {
-    pub low: i64,
-    pub high: i64,
-    pub count: u64,
-}
-
-// The reach of a row.
-fn reach_of(h: Vector, b: Bounds) -> Reach
-    requires { ⌜ Sized entry (entries h) × Sized coordinate (entries (b .low)) × Sized coordinate (entries (b .high)) × Solid (boxOf b) ⌝ }
-    ensures { λ r. ⌜ Reaches (entries h) (boxOf b) r ⌝ }
-{
-    let low = boxes::least(h, b);
-    let high = boxes::greatest(h, b);
-    Reach {
-        low,
-        high,
-        count: boxes::steps_above(low, high + 1),
-    }
-}
-
 // The frame of a job.
 pub fn frame_of(j: Job) -> Frame
     requires { ⌜ Acceptable j × AllAhead j ⌝ }
     ensures { λ r. ⌜ Framed j r ⌝ }
 {
     let b = j.bounds;
-    let first = reach_of(j.row0, b);
-    let second = reach_of(j.row1, b);
-    let clock = reach_of(j.time, b);
+    let first = boxes::reach_of(j.row0, b);
+    let second = boxes::reach_of(j.row1, b);
+    let clock = boxes::reach_of(j.time, b);
     Frame {
         points: boxes::count(b),
         start: clock.low,

@@ -2,16 +2,11 @@
 use mathlib.Core.List.{List, [], _∷_}
 use Prim.Native.Nat.{ℕ, _+_, _*_}
 use lib.ListN.{getD}
-use lib.IntN.{ℤ}
 use Rattle.space.specs.Numbers.{up, steps}
 use Rattle.space.specs.Vectors.{entries}
-use Rattle.boxes.specs.Boxes.{Side, Box, side, across, countOf, placeOf, pointOf, leastOf, greatestOf}
+use Rattle.boxes.specs.Boxes.{Side, Box, across, countOf, placeOf, pointOf, reach}
 use Rattle.job.specs.declared.Job.{Job}
 use Rattle.mapping.specs.Mapping.{box, H, S, delay, delays}
-
--- from the least to the greatest
-abbrev pub reach : List ℤ → Box → Side
-reach h B = side (leastOf h B) (greatestOf h B)
 
 -- the rectangle of cells; box order in it is row-major
 abbrev pub rectangle : Job → Box

@@ -27,7 +27,8 @@ use Rattle.tick.specs.Ticks.{arrival}
 use Rattle.tick.specs.Steps.{Runnable, Roomy, Band-lent}
 use Rattle.frame.specs.Framing.{Banded, bandAt, Framed}
 use Rattle.frame.specs.declared.Frame.{Frame}
-use Rattle.frame.proofs.FrameLaws.{small-ends, rectangle-solid}
+use Rattle.frame.proofs.FrameLaws.{rectangle-solid}
+use Rattle.verdict.proofs.SizeLaws.{small-ends}
 use Rattle.tick.proofs.RoomLaws.{from-next, delay-some, band-in, band-few, cells-few, part-at}
 
 -- ---- the shape of a band

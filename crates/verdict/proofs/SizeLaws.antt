@@ -1,45 +1,38 @@
--- What the sizes of an accepted job come to: the span of a row, and the sum of the w.
-use mathlib.Core.Path.{_≡_, refl, subst, ap, ap₂, _∙_}
+-- What the sizes of an accepted job come to: the reach of a row, and the sum of the w.
+use mathlib.Core.Path.{_≡_, refl, ap}
 use mathlib.Core.List.{List}
 use Prim.Native.Nat.{ℕ, _+_, _*_, _<_, _≤_}
 use native.Mathlib.Nat.{le-trans, le-of-eq, div-le-self, mul-one}
 use native.Mathlib.Numerals.{add-one}
 use lib.ListN.{length}
-use lib.IntN.{ℤ, pos, negsuc, natAbs, _-ℤ_, _+ℤ_}
+use lib.IntN.{ℤ, pos, negsuc, natAbs}
 use lib.Signed.{_≤ℤ_, quotZ}
-use Rattle.space.specs.Numbers.{up, Size, steps}
+use Rattle.space.specs.Numbers.{up, Size}
 use Rattle.space.specs.Vectors.{Sized, entries}
-use Rattle.boxes.specs.Boxes.{Box, Least, Greatest, Solid, across, countOf}
-use Rattle.space.proofs.Parts.{int, sum, difference, magnitude}
+use Rattle.boxes.specs.Boxes.{across, countOf, leastOf, greatestOf, reach}
+use Rattle.space.proofs.Parts.{sum}
 use Rattle.space.proofs.Ints.{natAbs-quot}
-use Rattle.space.proofs.VectorLaws.{dot-size}
-use Rattle.boxes.proofs.BoxLaws.{SidesSized, in-sized}
+use Rattle.space.proofs.VectorLaws.{dot-size, sized-up}
+use Rattle.boxes.proofs.BoxLaws.{sides-sized, across-size}
 use Rattle.job.specs.declared.Job.{Job}
 use Rattle.job.specs.Limits.{Acceptable}
 use Rattle.mapping.specs.Mapping.{along, H, hops, delay, delays, box}
 use Rattle.verdict.specs.Rules.{Ahead}
 use Rattle.job.proofs.Accepting.{stream-sound}
-use Rattle.mapping.proofs.Fits.{time-sized}
-use Rattle.boxes.proofs.ExtremeLaws.{least-is, greatest-is, least-unique, greatest-unique}
-use Rattle.mapping.specs.Frames.{reach, cells}
+use Rattle.mapping.proofs.Fits.{time-sized, low-sized, high-sized, solid}
+use Rattle.boxes.proofs.ExtremeLaws.{least-is, greatest-is, ends-small}
+use Rattle.mapping.specs.Frames.{cells}
+use native.Mathlib.Omega.{arith}
 
--- ---- the span of a row
--- the size of the greatest product
-pub greatest-size : {a : ℕ} (b : ℕ) {h : List ℤ} {B : Box} {r : ℤ} → Sized a h → SidesSized b B → Greatest h B r → Size (length h * (a * b)) r
-greatest-size {a} b {h} {B} p w G =
-    subst (Size (length h * (a * b))) (G .met .2) (dot-size p (in-sized b B (G .met .0) w (G .met .1)))
+-- ---- the reach of a row of an acceptable job
+module _ (j : Job) (a : Acceptable j) where
+  -- its ends are small
+  pub small-ends : (h : List ℤ) → length h ≡ 4 → Sized 127 h → Size 8376324 (leastOf h (box j)) × Size 8376324 (greatestOf h (box j))
+  small-ends h e p = ends-small e (sized-up (omega arith) p) (sides-sized (j .bounds) (low-sized j a) (high-sized j a)) (least-is h (box j) e (solid j a)) (greatest-is h (box j) e (solid j a))
 
-module _ {h : List ℤ} {B : Box} {l u : ℤ} (L : Least h B l) (G : Greatest h B u) where
-  -- the greatest product is not below the least
-  pub least-greatest : pos 0 ≤ℤ (u -ℤ l)
-  least-greatest =
-      let k = subst (λ (z : ℤ). l ≤ℤ z) (G .met .2) (L .below (G .met .0) (G .met .1)) in omega (int, difference u l)
-
-  -- so there are one more numbers from the one to the other than their difference
-  pub span-is : length h ≡ length B → Solid B → natAbs (u -ℤ l) + 1 ≡ across (reach h B)
-  span-is e w =
-      let here : pos (natAbs (u -ℤ l) + 1) ≡ (u +ℤ pos 1) -ℤ l = omega (int, least-greatest, magnitude (u -ℤ l), difference u l, sum u (pos 1), difference (u +ℤ pos 1) l) in
-      ap up here ∙ ap₂ (λ (x y : ℤ). steps x (y +ℤ pos 1)) (least-unique L (least-is h B e w)) (greatest-unique G (greatest-is h B e w))
+  -- and it is short
+  pub across-small : (h : List ℤ) → length h ≡ 4 → Sized 127 h → across (reach h (box j)) ≤ 16752649
+  across-small h e p = let s = small-ends h e p in across-size (reach h (box j)) (s .0) (s .1)
 
 -- ---- the cells of the rectangle are the product of its sides
 pub cells-are : (j : Job) → cells j ≡ across (reach (entries (j .row0)) (box j)) * across (reach (entries (j .row1)) (box j))

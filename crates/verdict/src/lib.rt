@@ -9,11 +9,8 @@ use job::Job;
 use space::Vector;
 ghost use mathlib.Core.Path.{_≡_};
 ghost use Prim.Native.Nat.{ℕ, _<_, _≤_};
-ghost use Rattle.space.specs.Vectors.{entries, Sized};
-ghost use Rattle.boxes.specs.Boxes.{Solid, boxOf, across};
 ghost use Rattle.job.specs.Limits.{Acceptable};
 ghost use Rattle.mapping.specs.Mapping.{delays};
-ghost use Rattle.mapping.specs.Frames.{reach};
 ghost use Rattle.verdict.specs.Rules.{Ahead, Sizes};
 ghost use Rattle.verdict.specs.Replies.{Says};
 
@@ -73,17 +70,6 @@ pub fn verdict_of(j: Job) -> Verdict
     Verdict::Accepted(sizes(j))
 }
 
-// How many numbers there are from the least to the greatest product of a row.
-fn span(h: Vector, b: Bounds) -> u64
-    requires { ⌜ Sized 127 (entries h) × Sized 127 (entries (b .low)) × Sized 127 (entries (b .high)) × Solid (boxOf b) ⌝ }
-    ensures few { λ r. ⌜ r ≤ 129033 ⌝ }
-    ensures is { λ r. ⌜ r ≡ across (reach (entries h) (boxOf b)) ⌝ }
-{
-    let least = boxes::least(h, b);
-    let greatest = boxes::greatest(h, b);
-    (greatest - least) as u64 + 1
-}
-
 // The sum of the w.
 fn all_delays(j: Job) -> u64
     requires { ⌜ Acceptable j × ((s : ℕ) → s < j .m → Ahead j s) ⌝ }
@@ -108,11 +94,13 @@ fn sizes(j: Job) -> Size
     ensures { λ r. ⌜ Sizes j r ⌝ }
 {
     let b = j.bounds;
-    let h = j.time;
-    let row0 = j.row0;
-    let row1 = j.row1;
-    let cells = span(row0, b) * span(row1, b);
-    let ticks = span(h, b);
-    let room = cells * all_delays(j);
-    Size { cells, ticks, room }
+    let rows = boxes::reach_of(j.row0, b);
+    let columns = boxes::reach_of(j.row1, b);
+    let clock = boxes::reach_of(j.time, b);
+    let cells = rows.count * columns.count;
+    Size {
+        cells,
+        ticks: clock.count,
+        room: cells * all_delays(j),
+    }
 }

@@ -8,8 +8,8 @@ use Rattle.boxes.specs.Boxes.{Box, side}
 use Rattle.space.proofs.VectorLaws.{unfour}
 use Rattle.mapping.proofs.Fits.{row0-sized, row1-sized}
 use Rattle.mapping.proofs.Meetings.{unit-sized}
-use Rattle.verdict.proofs.SizeLaws.{delay-up}
-use Rattle.frame.proofs.FrameLaws.{held-limit, held-is, small-ends}
+use Rattle.verdict.proofs.SizeLaws.{delay-up, small-ends}
+use Rattle.frame.proofs.FrameLaws.{held-limit, held-is}
 use Rattle.frame.proofs.band_of.Statement.{statement}
 use Rattle.frame.proofs.band_of.Tie as tie
 

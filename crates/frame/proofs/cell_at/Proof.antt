@@ -13,7 +13,8 @@ use Rattle.mapping.specs.Mapping.{box}
 use Rattle.mapping.specs.Courses.{placed}
 use Rattle.mapping.proofs.Fits.{row0-sized, row1-sized}
 use Rattle.mapping.specs.Frames.{cellOf}
-use Rattle.frame.proofs.FrameLaws.{held-is, fits-limit, small-ends, point-sized, product-sized, across-small, cell-below, cell-is, cells-small}
+use Rattle.frame.proofs.FrameLaws.{held-is, fits-limit, point-sized, product-sized, cell-below, cell-is, cells-small}
+use Rattle.verdict.proofs.SizeLaws.{small-ends, across-small}
 use Rattle.frame.proofs.cell_at.Statement.{statement}
 use Rattle.frame.proofs.cell_at.Tie as tie
 

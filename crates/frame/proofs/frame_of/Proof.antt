@@ -7,10 +7,10 @@ use Rattle.space.specs.Vectors.{entries}
 use Rattle.space.proofs.Machine.{fits-under}
 use Rattle.space.proofs.VectorLaws.{sized-up}
 use Rattle.mapping.proofs.Fits.{solid, time-sized, row0-sized, row1-sized, low-sized, high-sized, walkable}
-use Rattle.frame.proofs.FrameLaws.{held-is, small-ends, across-small}
+use Rattle.frame.proofs.FrameLaws.{held-is}
+use Rattle.verdict.proofs.SizeLaws.{small-ends, across-small, cells-are}
 use Rattle.frame.proofs.frame_of.Statement.{statement}
 use Rattle.frame.proofs.frame_of.Tie as tie
-use Rattle.verdict.proofs.SizeLaws.{cells-are}
 
 reach-of-requires : tie.Need-reach-of-requires
 reach-of-requires c κs =

@@ -8,7 +8,8 @@ use Rattle.space.proofs.VectorLaws.{sized-up}
 use Rattle.mapping.specs.Mapping.{box, H}
 use Rattle.mapping.proofs.Fits.{time-sized}
 use Rattle.mapping.specs.Frames.{tickOf}
-use Rattle.frame.proofs.FrameLaws.{held-is, fits-limit, small-ends, point-sized, product-sized}
+use Rattle.frame.proofs.FrameLaws.{held-is, fits-limit, point-sized, product-sized}
+use Rattle.verdict.proofs.SizeLaws.{small-ends}
 use Rattle.frame.proofs.tick_at.Statement.{statement}
 use Rattle.frame.proofs.tick_at.Tie as tie
 
