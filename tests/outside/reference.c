@@ -1,5 +1,7 @@
 #include "reference.h"
 
+#include <stdio.h>
+
 #include <stdlib.h>
 #include <string.h>
 
@@ -218,7 +220,7 @@ struct verdict reference_verdict(struct job *j) {
         t->sd[1] = product(j->row[1], t->d);
         t->g = gcd(t->sd[0], t->sd[1]);
         if (t->hd < 1) {
-            return (struct verdict){9, (unsigned)s, 0};
+            return (struct verdict){9, (unsigned)s, 0, 0, 0};
         }
     }
     for (int s = 0; s < j->m; s++) {
@@ -228,18 +230,24 @@ struct verdict reference_verdict(struct job *j) {
             continue;
         }
         if (t->hd % t->g != 0) {
-            return (struct verdict){10, (unsigned)s, 0};
+            return (struct verdict){10, (unsigned)s, 0, 0, 0};
         }
         t->e[0] = t->sd[0] / t->g;
         t->e[1] = t->sd[1] / t->g;
         t->w = t->hd / t->g;
     }
+    int p0 = -1, q0 = -1;
     for (int p = 0; p < j->points; p++) {
         for (int q = p + 1; q < j->points; q++) {
-            if (j->h[p] == j->h[q] && j->s[p][0] == j->s[q][0] && j->s[p][1] == j->s[q][1]) {
-                return (struct verdict){11, 0, 0};
+            int shared = j->h[p] == j->h[q] && j->s[p][0] == j->s[q][0] && j->s[p][1] == j->s[q][1];
+            if (shared && (p0 < 0 || comes_first(j, p, q, p0, q0))) {
+                p0 = p;
+                q0 = q;
             }
         }
+    }
+    if (p0 >= 0) {
+        return (struct verdict){11, 0, 0, p0, q0};
     }
     for (int s = 0; s < j->m; s++) {
         const struct stream *t = &j->stream[s];
@@ -255,11 +263,11 @@ struct verdict reference_verdict(struct job *j) {
             }
         }
         if (p1 >= 0) {
-            return (struct verdict){12, (unsigned)s, hops};
+            return (struct verdict){12, (unsigned)s, hops, p1, q1};
         }
     }
     measure(j);
-    return (struct verdict){0, 0, 0};
+    return (struct verdict){0, 0, 0, 0, 0};
 }
 
 /* The place in box order of a point, or -1 where it is outside. */
@@ -346,4 +354,31 @@ void reference_loop(const struct job *j, const uint32_t *input, uint32_t *values
             values[s * j->points + i] = new_value(j, s, in);
         }
     }
+}
+
+/* The coordinates of a point, each after a blank. */
+static char *put_point(char *at, const struct job *j, int p) {
+    for (int i = 0; i < j->n; i++) {
+        at += sprintf(at, " %d", j->x[p][i]);
+    }
+    return at;
+}
+
+void reference_line(const struct job *j, struct verdict v, char *line) {
+    if (v.number == 0) {
+        sprintf(line, "accepted cells %llu ticks %ld room %llu\n", (unsigned long long)j->cells, j->ticks, (unsigned long long)j->room);
+        return;
+    }
+    line += sprintf(line, "refused %u", v.number);
+    if (v.number == 9 || v.number == 10 || v.number == 12) {
+        line += sprintf(line, " stream %u", v.stream);
+    }
+    if (v.number == 11 || v.number == 12) {
+        line = put_point(line + sprintf(line, " pair"), j, v.p);
+        line = put_point(line + sprintf(line, " /"), j, v.q);
+    }
+    if (v.number == 12) {
+        line += sprintf(line, " hops %ld", v.hops);
+    }
+    sprintf(line, "\n");
 }

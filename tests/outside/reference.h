@@ -31,6 +31,8 @@ struct job {
 struct verdict {
     unsigned number, stream;
     long hops;
+    /* the pair of 11 and 12, by its places in box order */
+    int p, q;
 };
 
 /* Refusals 1 to 8, or 0 and the job. */
@@ -38,6 +40,9 @@ unsigned reference_read(const uint8_t *bytes, size_t length, struct job *j);
 
 /* The verdict on a job that was read; where its number is 0 the sizes are set too. */
 struct verdict reference_verdict(struct job *j);
+
+/* The printed line of a verdict: of a job that was read, or of a refusal by 1 to 8. At most 200 bytes. */
+void reference_line(const struct job *j, struct verdict v, char *line);
 
 /* One tick of an accepted job. */
 void reference_tick(const struct job *j, long t, const uint32_t *input, uint32_t *values, uint32_t *places);
