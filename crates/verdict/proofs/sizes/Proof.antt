@@ -22,14 +22,18 @@ use Rattle.verdict.proofs.sizes.Tie as tie
 asked : (j : Job) {h : List ℤ} → Acceptable j → Sized 127 h → Sized entry h × Sized coordinate (entries (j .bounds .low)) × Sized coordinate (entries (j .bounds .high)) × Solid (boxOf (j .bounds))
 asked j a p = (sized-up (omega arith) p, low-sized j a, high-sized j a, solid j a)
 
+-- the rows of an acceptable job are small
+small : (s : tie.Start) → Sized 127 (entries (s .args .j .time)) × Sized 127 (entries (s .args .j .row0)) × Sized 127 (entries (s .args .j .row1))
+small s = (time-sized (s .args .j) (s .pre .0), row0-sized (s .args .j) (s .pre .0), row1-sized (s .args .j) (s .pre .0))
+
 reach-of-requires : tie.Need-reach-of-requires
-reach-of-requires c κs = let s = c .before in asked (s .args .j) (s .pre .0) (row0-sized (s .args .j) (s .pre .0))
+reach-of-requires c κs = let s = c .before in asked (s .args .j) (s .pre .0) (search (small s))
 
 reach-of-requires-2 : tie.Need-reach-of-requires-2
-reach-of-requires-2 c κs = let s = c .before .before in asked (s .args .j) (s .pre .0) (row1-sized (s .args .j) (s .pre .0))
+reach-of-requires-2 c κs = let s = c .before .before in asked (s .args .j) (s .pre .0) (search (small s))
 
 reach-of-requires-3 : tie.Need-reach-of-requires-3
-reach-of-requires-3 c κs = let s = c .before .before .before in asked (s .args .j) (s .pre .0) (time-sized (s .args .j) (s .pre .0))
+reach-of-requires-3 c κs = let s = c .before .before .before in asked (s .args .j) (s .pre .0) (search (small s))
 
 -- cells are few
 cells-few : (c : tie.After-struct-known2) → c .before .before .before .before .reach-of .result .count * c .before .before .before .reach-of2 .result .count ≤ 16752649 * 16752649
