@@ -9,7 +9,7 @@ use native.Mathlib.Omega.{arith}
 use lib.ListN.{length, getD, drop}
 use lib.Seq.{ext-getD, getD-drop}
 use Rattle.job.specs.declared.Job.{Job}
-use Rattle.loops.specs.Tables.{points, entryFor}
+use Rattle.tables.specs.Tables.{points, entryFor}
 use Rattle.mapping.specs.Frames.{cells, tickOf, w, from, room, held}
 use Rattle.tick.specs.Ticks.{Ticked}
 use Rattle.array.specs.Runs.{Ran}
@@ -17,7 +17,7 @@ use Rattle.array.specs.Runs.Ran.{ready, ticked}
 use Rattle.tick.specs.Steps.{Runnable}
 use Rattle.tick.proofs.RoomLaws.{from-next, delay-some}
 use Rattle.tick.proofs.LendingLaws.{from-first}
-use Rattle.loops.proofs.LoopLaws.{tables-same}
+use Rattle.tables.proofs.TableLaws.{tables-same}
 use Rattle.array.proofs.RunLaws.{ran-size}
 
 -- ---- tables

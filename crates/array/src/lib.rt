@@ -1,127 +1,72 @@
 // The array: a run of all ticks, and a single tick.
 
+use answers::Checked;
+use answers::Reply;
 use frame::Frame;
 use job::Job;
-use verdict::Size;
 use verdict::Verdict;
 ghost use mathlib.Core.Path.{_≡_};
-ghost use Prim.Native.Nat.{_<_, _≤_};
+ghost use Prim.Native.Nat.{_≤_};
 ghost use lib.ListN.{length};
-ghost use Rattle.job.specs.Limits.{Acceptable};
 ghost use Rattle.job.specs.declared.Job.{Job};
-ghost use Rattle.loops.specs.Tables.{points as pointsOf};
-ghost use Rattle.array.specs.Runs.{Ran, cleared, Answers, Runs, Steps, RepliesOf, runChecks};
+ghost use Rattle.tables.specs.Tables.{points as pointsOf};
+ghost use Rattle.array.specs.Runs.{Ran, cleared, Runs, Steps, RepliesOf};
 ghost use Rattle.tick.specs.Steps.{Tabled, Roomy};
 ghost use Rattle.frame.specs.Framing.{Timed};
-ghost use Rattle.array.specs.Lacking.{Lacks};
-
-// What a run or a tick answers: the tick count; the verdict's refusal; 13; 14 and 15 with R; 16.
-pub enum Reply {
-    Ticks(u64),
-    Refused(Verdict),
-    Tables,
-    Large(u64),
-    Few(u64),
-    Late,
-}
-
-// The same in numbers: the number of refusal, 0 for none, and the tick count, or R for 14 and 15.
-pub struct Answer {
-    pub number: u8,
-    pub count: u64,
-}
-
-// What a reply answers.
-pub fn answer_of(r: Reply) -> Answer
-    ensures { λ a. ⌜ Answers r a ⌝ }
-{
-    match r {
-        Reply::Ticks(n) => Answer {
-            number: 0,
-            count: n,
-        },
-        Reply::Refused(v) => {
-            let a = replies::numbers::answer_of(v);
-            Answer {
-                number: a.number,
-                count: 0,
-            }
-        }
-        Reply::Tables => Answer {
-            number: 13,
-            count: 0,
-        },
-        Reply::Large(room) => Answer {
-            number: 14,
-            count: room,
-        },
-        Reply::Few(room) => Answer {
-            number: 15,
-            count: room,
-        },
-        Reply::Late => Answer {
-            number: 16,
-            count: 0,
-        },
-    }
-}
 
 // The run of a record: the first R places cleared, then every tick in order.
 pub fn run_of(j: Job, input: &[u32], values: &mut [u32], places: &mut [u32]) -> Reply
     ensures { λ r. ⌜ Runs j (now (input .entry)) (now (values .entry)) (now (places .entry)) (now (values .exit)) (now (places .exit)) r ⌝ }
 {
-    let v = verdict::verdict_of(j);
-    let Verdict::Accepted(size) = v else {
-        return Reply::Refused(v);
-    };
-    let reply = lacking(j, size, input.len(), values.len(), places.len());
-    let Reply::Ticks(ticks) = reply else {
-        return reply;
-    };
-    let f = frame::frame_of(j);
-    let mut timetable = [0u64; 1024];
-    frame::fill_timetable(j, f, &mut timetable[..]);
-    clear(&mut places[..], size.room as usize);
-    all_ticks(
-        j,
-        f,
-        &timetable[..],
-        ticks,
-        input,
-        &mut values[..],
-        &mut places[..],
-    );
-    Reply::Ticks(ticks)
+    let checked = answers::check(j, input.len(), values.len(), places.len());
+    match checked {
+        Checked::Refused(reply) => reply,
+        Checked::Passed(size) => {
+            let ticks = size.ticks;
+            let f = frame::frame_of(j);
+            let mut timetable = [0u64; 1024];
+            frame::fill_timetable(j, f, &mut timetable[..]);
+            clear(&mut places[..], size.room as usize);
+            all_ticks(
+                j,
+                f,
+                &timetable[..],
+                ticks,
+                input,
+                &mut values[..],
+                &mut places[..],
+            );
+            Reply::Ticks(ticks)
+        }
+    }
 }
 
 // One tick of a record, from the lent places as they are.
 pub fn tick_of(j: Job, t: u64, input: &[u32], values: &mut [u32], places: &mut [u32]) -> Reply
     ensures { λ r. ⌜ Steps t j (now (input .entry)) (now (values .entry)) (now (places .entry)) (now (values .exit)) (now (places .exit)) r ⌝ }
 {
-    let v = verdict::verdict_of(j);
-    let Verdict::Accepted(size) = v else {
-        return Reply::Refused(v);
-    };
-    let reply = lacking(j, size, input.len(), values.len(), places.len());
-    let Reply::Ticks(ticks) = reply else {
-        return reply;
-    };
-    if ticks <= t {
-        return Reply::Late;
+    let checked = answers::check(j, input.len(), values.len(), places.len());
+    match checked {
+        Checked::Refused(reply) => reply,
+        Checked::Passed(size) => {
+            if size.ticks <= t {
+                return Reply::Late;
+            }
+            let f = frame::frame_of(j);
+            let mut timetable = [0u64; 1024];
+            frame::fill_timetable(j, f, &mut timetable[..]);
+            tick::one_tick(
+                j,
+                f,
+                &timetable[..],
+                t,
+                input,
+                &mut values[..],
+                &mut places[..],
+            );
+            Reply::Ticks(size.ticks)
+        }
     }
-    let f = frame::frame_of(j);
-    let mut timetable = [0u64; 1024];
-    frame::fill_timetable(j, f, &mut timetable[..]);
-    tick::one_tick(
-        j,
-        f,
-        &timetable[..],
-        t,
-        input,
-        &mut values[..],
-        &mut places[..],
-    );
-    Reply::Ticks(ticks)
 }
 
 // The run of the job that the bytes are.
@@ -150,24 +95,6 @@ pub fn tick_of_bytes(
         reader::Reply::Refused(number) => Reply::Refused(Verdict::Limit(number)),
         reader::Reply::Job(j) => tick_of(j, t, input, &mut values[..], &mut places[..]),
     }
-}
-
-// The first check of 13 to 15 that tables and places so long do not pass, or the tick count.
-fn lacking(j: Job, size: Size, input: usize, values: usize, places: usize) -> Reply
-    requires { ⌜ Acceptable j ⌝ }
-    ensures { λ r. ⌜ Lacks (runChecks j input values places) size r ⌝ }
-{
-    let table = loops::looped::place_in_table(j.m, boxes::count(j.bounds), 0);
-    if (input != table) | (values != table) {
-        return Reply::Tables;
-    }
-    if 8192 < size.room {
-        return Reply::Large(size.room);
-    }
-    if (places as u64) < size.room {
-        return Reply::Few(size.room);
-    }
-    Reply::Ticks(size.ticks)
 }
 
 // The first n places are cleared.

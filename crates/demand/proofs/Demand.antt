@@ -9,7 +9,7 @@ use Rattle.job.specs.declared.Job.{Job}
 use Rattle.verdict.specs.Replies.{Says}
 use Rattle.verdict.specs.declared.Size.{Size}
 use Rattle.verdict.specs.declared.Verdict.the-variants.{Accepted}
-use Rattle.loops.specs.Tables.{points, entryFor}
+use Rattle.tables.specs.Tables.{points, entryFor}
 use Rattle.loops.specs.Loops.{Looped, incoming as loopIncoming}
 use Rattle.mapping.specs.Frames.{cells, ticks, tickOf, cellOf, held}
 use Rattle.tick.specs.Ticks.{pointAt, incoming as arrayIncoming}
@@ -23,7 +23,7 @@ use Rattle.demand.proofs.Scans.{point-only}
 use Rattle.demand.specs.Instances.{machine, nest}
 use Rattle.demand.proofs.Instance.{job-mapped}
 use Rattle.demand.proofs.Runs.{incoming-is, Steps, steps-of, run-of, taken-is, loop-solves, ran-through}
-use Rattle.loops.proofs.LoopLaws.{tables-same}
+use Rattle.tables.proofs.TableLaws.{tables-same}
 use Rattle.array.proofs.RunLaws.{ran-size}
 
 module _ (j : Job) (z : Size) (says : Says j (Accepted z)) where

@@ -21,8 +21,7 @@ use Rattle.job.specs.declared.Job.{Job}
 use Rattle.job.proofs.Accepting.{stream-sound}
 use Rattle.mapping.specs.Mapping.{box, stream, along, H, S, g, Stationary, orOne, hops, hop, delay}
 use Rattle.mapping.proofs.Courses.{stationary-none, hops-moving, place-whole}
-use Rattle.loops.specs.Tables.{points}
-use Rattle.loops.specs.Loops.{previous}
+use Rattle.tables.specs.Tables.{points, previous}
 use Rattle.mapping.specs.Frames.{rectangle, clock, tickOf, cellOf, w}
 use Rattle.frame.proofs.FrameLaws.{between, in-rectangle}
 use Rattle.demand.proofs.Lines.{line-start, line-back, line-behind, minus-back}

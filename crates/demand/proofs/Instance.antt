@@ -6,9 +6,8 @@ use Prim.Native.Nat.{ℕ}
 use Rattle.boxes.proofs.BackLaws.{back-below}
 use Rattle.job.specs.declared.Job.{Job}
 use Rattle.mapping.specs.Mapping.{hops}
-use Rattle.loops.specs.Tables.{entryFor}
-use Rattle.loops.specs.Loops.{previous}
-use Rattle.loops.proofs.LoopLaws.{same-work}
+use Rattle.tables.specs.Tables.{entryFor, previous}
+use Rattle.tables.proofs.TableLaws.{same-work}
 use Rattle.mapping.specs.Frames.{rectangle, cells}
 use Rattle.boxes.specs.Boxes.{given}
 use Rattle.demand.specs.Instances.{machine, nest}

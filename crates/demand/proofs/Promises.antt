@@ -12,14 +12,15 @@ use Rattle.job.proofs.Refusing.{Passes, first-unique, first-passes, then-first}
 use Rattle.reader.specs.Reading.{Reads}
 use Rattle.reader.specs.declared.Reply.the-variants as Read
 use Rattle.reader.proofs.Theorems.{of-bytes-job}
-use Rattle.loops.specs.Tables.{points, Long}
+use Rattle.tables.specs.Tables.{points, Long}
 use Rattle.loops.specs.Loops.{loopChecks, Loops}
 use Rattle.loops.specs.LoopBytes.{LoopsOf}
-use Rattle.loops.specs.declared.looped.Reply.{Reply as Answer}
-use Rattle.loops.specs.declared.looped.Reply.the-variants.{Points, Refused}
-use Rattle.array.specs.Runs.{runChecks, Runs, RepliesOf}
-use Rattle.array.specs.declared.Reply.{Reply}
-use Rattle.array.specs.declared.Reply.the-variants as Array
+use Rattle.loops.specs.declared.Reply.{Reply as Answer}
+use Rattle.loops.specs.declared.Reply.the-variants.{Points, Refused}
+use Rattle.answers.specs.Answers.{runChecks}
+use Rattle.array.specs.Runs.{Runs, RepliesOf}
+use Rattle.answers.specs.declared.Reply.{Reply}
+use Rattle.answers.specs.declared.Reply.the-variants as Array
 use Rattle.demand.proofs.Rules.{rules-kept}
 use Rattle.demand.proofs.Demand.{demand-3}
 

@@ -11,9 +11,9 @@ use borrow.Author.Tests.{lt-ltb, le-ltb}
 use Rattle.boxes.specs.Boxes.{backOf, given}
 use Rattle.job.specs.declared.Job.{Job}
 use Rattle.mapping.specs.Mapping.{hop}
-use Rattle.loops.specs.Tables.{points, entryFor}
+use Rattle.tables.specs.Tables.{points, entryFor, previous}
 use Rattle.cell.specs.Cells.{work}
-use Rattle.loops.specs.Loops.{previous, Looped, incoming as loopIncoming}
+use Rattle.loops.specs.Loops.{Looped, incoming as loopIncoming}
 use Rattle.mapping.specs.Frames.{rectangle, held}
 use Rattle.tick.specs.Ticks.{pointAt, Ticked as ArrayTicked, arrival as arrayArrival, incoming as arrayIncoming, fresh as arrayFresh, stored as arrayStored}
 use Rattle.array.specs.Runs.{Ran}

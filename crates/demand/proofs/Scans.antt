@@ -7,7 +7,7 @@ use native.Mathlib.Decide.{ℕ-discrete}
 use native.Mathlib.Omega.{arith}
 use Rattle.space.proofs.Telling.{told}
 use Rattle.job.specs.declared.Job.{Job}
-use Rattle.loops.specs.Tables.{points}
+use Rattle.tables.specs.Tables.{points}
 use Rattle.mapping.specs.Frames.{tickOf, cellOf}
 use Rattle.tick.specs.Ticks.{lastOf, works, pointAt}
 use Rattle.tick.proofs.PointLaws.{last-only, works-tells}

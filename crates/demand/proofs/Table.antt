@@ -10,7 +10,7 @@ use Rattle.verdict.specs.Replies.{Says}
 use Rattle.verdict.specs.declared.Verdict.{Verdict}
 use Rattle.verdict.specs.declared.Verdict.the-variants.{Accepted}
 use Rattle.decisions.proofs.Answer.{answer}
-use Rattle.loops.specs.Tables.{entryFor}
+use Rattle.tables.specs.Tables.{entryFor}
 use Rattle.cell.specs.Cells.{ruled, work}
 use Rattle.loops.specs.Loops.{incoming}
 use Rattle.demand.proofs.Demand.{demand-3}

@@ -6,9 +6,8 @@ use Prim.Native.Nat.{ℕ, _<_}
 use Rattle.boxes.specs.Boxes.{backOf, given}
 use Rattle.job.specs.declared.Job.{Job}
 use Rattle.mapping.specs.Mapping.{hop}
-use Rattle.loops.specs.Tables.{points, entryFor}
+use Rattle.tables.specs.Tables.{points, entryFor, previous}
 use Rattle.cell.specs.Cells.{work}
-use Rattle.loops.specs.Loops.{previous}
 use Rattle.mapping.specs.Frames.{rectangle, cells, tickOf, cellOf, w}
 use Rattle.tick.specs.Ticks.{pointAt}
 use Rattle.demand.specs.Machine.{Machine, Nest}

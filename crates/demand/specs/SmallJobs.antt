@@ -12,7 +12,7 @@ use Rattle.verdict.specs.Replies.{Says}
 use Rattle.verdict.specs.declared.Size.{Size}
 use Rattle.verdict.specs.declared.Verdict.{Verdict}
 use Rattle.verdict.specs.declared.Verdict.the-variants.{Accepted, Precedence, Hop, Cell, Link}
-use Rattle.loops.specs.Tables.{points}
+use Rattle.tables.specs.Tables.{points}
 use Rattle.loops.specs.Loops.{Looped}
 use Rattle.mapping.specs.Frames.{ticks}
 use Rattle.array.specs.Runs.{Ran}

@@ -22,7 +22,7 @@ use Rattle.job.specs.Limits.{Acceptable}
 use Rattle.mapping.specs.Mapping.{box, H, S}
 use Rattle.mapping.proofs.Fits.{solid, row0-sized, row1-sized, low-sized, high-sized}
 use Rattle.verdict.proofs.SizeLaws.{cells-are, across-small}
-use Rattle.loops.specs.Tables.{points}
+use Rattle.tables.specs.Tables.{points}
 use Rattle.frame.specs.Framing.{Timed}
 use Rattle.mapping.specs.Frames.{rectangle, cells, clock, ticks, tickOf, cellOf}
 

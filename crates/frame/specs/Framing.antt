@@ -10,7 +10,7 @@ use Rattle.mapping.specs.Mapping.{box, hop}
 use Rattle.verdict.specs.Rules.{Ahead}
 use Rattle.bands.specs.Bands.{rectangleOf, hopOf}
 use Rattle.bands.specs.declared.Band.{Band}
-use Rattle.loops.specs.Tables.{points}
+use Rattle.tables.specs.Tables.{points}
 use Rattle.mapping.specs.Frames.{rectangle, cells, clock, ticks, tickOf, w}
 use Rattle.frame.specs.declared.Frame.{Frame}
 use Rattle.frame.specs.declared.Bands.{Bands}

@@ -11,7 +11,7 @@ ghost use Rattle.space.specs.Vectors.{entries};
 ghost use Rattle.boxes.specs.Boxes.{pointOf, Reaches};
 ghost use Rattle.job.specs.Limits.{Acceptable};
 ghost use Rattle.mapping.specs.Mapping.{box};
-ghost use Rattle.loops.specs.Tables.{points as pointsOf};
+ghost use Rattle.tables.specs.Tables.{points as pointsOf};
 ghost use Rattle.mapping.specs.Frames.{tickOf, cellOf, cells};
 ghost use Rattle.frame.specs.Framing.{AllAhead, Framed, Banded, bandAt, AllBanded, Timed};
 

@@ -10,8 +10,7 @@ use Rattle.job.specs.declared.Job.{Job}
 use Rattle.reader.proofs.Theorems.{of-bytes-unique}
 use Rattle.mapping.specs.Mapping.{box}
 use Rattle.verdict.proofs.Unique.{says-unique}
-use Rattle.array.specs.declared.Reply.the-variants.{Refused}
-use Rattle.array.proofs.UniqueReplies.{no-refusal}
+use Rattle.verdict.proofs.Accepted.{no-refusal}
 use Rattle.lookup.specs.declared.Worked.{Worked}
 use Rattle.lookup.specs.declared.Worked.the-variants as Look
 use Rattle.lookup.specs.Lookups.{Looks, LooksOf}

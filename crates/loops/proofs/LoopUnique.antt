@@ -11,12 +11,12 @@ use Rattle.job.specs.Refusals.{First}
 use Rattle.job.specs.Limits.{Acceptable}
 use Rattle.job.proofs.Refusing.{first-unique, Passes, first-passes}
 use Rattle.reader.proofs.Theorems.{of-bytes-unique}
-use Rattle.loops.specs.Tables.{points, entryFor}
-use Rattle.loops.specs.Loops.{previous, incoming, Looped, loopChecks, Loops}
+use Rattle.tables.specs.Tables.{points, entryFor, previous}
+use Rattle.loops.specs.Loops.{incoming, Looped, loopChecks, Loops}
 use Rattle.loops.specs.LoopBytes.{LoopsOf}
-use Rattle.loops.specs.declared.looped.Reply.{Reply}
-use Rattle.loops.specs.declared.looped.Reply.the-variants.{Points, Refused}
-use Rattle.loops.proofs.LoopLaws.{previous-before, same-work, tables-same}
+use Rattle.loops.specs.declared.Reply.{Reply}
+use Rattle.loops.specs.declared.Reply.the-variants.{Points, Refused}
+use Rattle.tables.proofs.TableLaws.{previous-before, same-work, tables-same}
 
 module _ (j : Job) (a : Acceptable j) (input v w : List ℕ) where
   -- what comes in is the same where the columns before are

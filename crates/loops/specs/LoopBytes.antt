@@ -5,8 +5,8 @@ use Prim.Native.Nat.{ℕ}
 use Rattle.job.specs.declared.Job.{Job}
 use Rattle.reader.specs.Reading.{OfBytes}
 use Rattle.loops.specs.Loops.{Loops}
-use Rattle.loops.specs.declared.looped.Reply.{Reply}
-use Rattle.loops.specs.declared.looped.Reply.the-variants.{Refused}
+use Rattle.loops.specs.declared.Reply.{Reply}
+use Rattle.loops.specs.declared.Reply.the-variants.{Refused}
 
 -- the reader's refusal, with the value table as it was, or what the loop says of the job that the bytes are
 abbrev pub LoopsOf : List ℕ → List ℕ → List ℕ → List ℕ → Reply → Type 0

@@ -1,22 +1,16 @@
 -- 'The loop takes points in box order, the incoming value being the stream's value at i - d, or the input; it answers the point count.'
 use mathlib.Core.Path.{_≡_}
 use mathlib.Core.List.{List}
-use mathlib.Core.Option.{Option}
 use Prim.Native.Nat.{ℕ, _*_, _<_}
 use lib.ListN.{length}
-use Rattle.boxes.specs.Boxes.{backOf, given}
+use Rattle.boxes.specs.Boxes.{given}
 use Rattle.job.specs.declared.Job.{Job}
 use Rattle.job.specs.Refusals.{Checks, done, check, First, andThen}
 use Rattle.job.specs.Limits.{limits}
-use Rattle.mapping.specs.Mapping.{box, along}
-use Rattle.loops.specs.Tables.{points, Long, entryFor}
+use Rattle.tables.specs.Tables.{points, Long, entryFor, previous}
 use Rattle.cell.specs.Cells.{work}
-use Rattle.loops.specs.declared.looped.Reply.{Reply}
-use Rattle.loops.specs.declared.looped.Reply.the-variants.{Points, Refused}
-
--- the place of i - d, where it is in the box, for the point i at place k
-abbrev pub previous : Job → ℕ → ℕ → Option ℕ
-previous j s k = backOf (box j) (along j s) k
+use Rattle.loops.specs.declared.Reply.{Reply}
+use Rattle.loops.specs.declared.Reply.the-variants.{Points, Refused}
 
 -- 'the stream's value at i - d, or the input'
 unfoldable pub incoming : Job → List ℕ → List ℕ → ℕ → ℕ → ℕ

@@ -8,14 +8,14 @@ use Rattle.verdict.specs.Replies.{numberOf, streamOf, hopsOf}
 use Rattle.replies.specs.declared.bytes.Room.{Room}
 use Rattle.replies.specs.declared.bytes.Room.the-variants as Room
 use Rattle.replies.proofs.Unique.{says-of-unique, counts-unique}
-use Rattle.array.specs.Runs.{numberOf as numberIn, countIn}
-use Rattle.array.specs.declared.Reply.{Reply as RunReply}
+use Rattle.answers.specs.Answers.{numberOf as numberIn, countIn}
+use Rattle.answers.specs.declared.Reply.{Reply as RunReply}
 use Rattle.lookup.specs.declared.Worked.{Worked as Lookup}
 use Rattle.lookup.specs.declared.Worked.the-variants as Lookup
 use Rattle.array.proofs.UniqueReplies.{runs-of-unique, steps-of-unique}
 use Rattle.lookup.proofs.Unique.{looks-of-unique}
-use Rattle.loops.specs.declared.looped.Reply.{Reply as LoopReply}
-use Rattle.loops.specs.declared.looped.Reply.the-variants as Loop
+use Rattle.loops.specs.declared.Reply.{Reply as LoopReply}
+use Rattle.loops.specs.declared.Reply.the-variants as Loop
 use Rattle.loops.proofs.LoopUnique.{loops-of-unique}
 use Rattle.najluthed.specs.declared.Reply.{Reply}
 use Rattle.najluthed.specs.declared.Done.{Done}

@@ -10,11 +10,12 @@ use Rattle.verdict.specs.declared.Verdict.{Verdict}
 use Rattle.replies.specs.declared.bytes.Room.{Room}
 use Rattle.replies.specs.declared.bytes.Room.the-variants as Room
 use Rattle.loops.specs.LoopBytes.{LoopsOf}
-use Rattle.loops.specs.declared.looped.Reply.{Reply as LoopReply}
-use Rattle.loops.specs.declared.looped.Reply.the-variants as Loop
-use Rattle.array.specs.Runs.{Runs, Steps, RepliesOf, numberOf as numberIn, countIn}
+use Rattle.loops.specs.declared.Reply.{Reply as LoopReply}
+use Rattle.loops.specs.declared.Reply.the-variants as Loop
+use Rattle.array.specs.Runs.{Runs, Steps, RepliesOf}
+use Rattle.answers.specs.Answers.{numberOf as numberIn, countIn}
 use Rattle.lookup.specs.Lookups.{LooksOf}
-use Rattle.array.specs.declared.Reply.{Reply as RunReply}
+use Rattle.answers.specs.declared.Reply.{Reply as RunReply}
 use Rattle.lookup.specs.declared.Worked.{Worked as Lookup}
 use Rattle.lookup.specs.declared.Worked.the-variants as Lookup
 use Rattle.najluthed.specs.declared.Reply.{Reply}

@@ -76,7 +76,7 @@ pub extern "C" fn najluthed_run(
     ensures { λ a. ⌜ AnswersRun (now (job .entry)) (now (input .entry)) (now (values .entry)) (now (places .entry)) (now (values .exit)) (now (places .exit)) a ⌝ }
 {
     let r = array::run_of_bytes(job, input, &mut values[..], &mut places[..]);
-    let ran = array::answer_of(r);
+    let ran = answers::answer_of(r);
     Done {
         number: wide(ran.number),
         count: ran.count,
@@ -95,7 +95,7 @@ pub extern "C" fn najluthed_tick(
     ensures { λ a. ⌜ AnswersTick tick (now (job .entry)) (now (input .entry)) (now (values .entry)) (now (places .entry)) (now (values .exit)) (now (places .exit)) a ⌝ }
 {
     let r = array::tick_of_bytes(job, tick, input, &mut values[..], &mut places[..]);
-    let ticked = array::answer_of(r);
+    let ticked = answers::answer_of(r);
     Done {
         number: wide(ticked.number),
         count: ticked.count,
@@ -107,13 +107,13 @@ pub extern "C" fn najluthed_tick(
 pub extern "C" fn najluthed_loop(job: &[u8], input: &[u32], values: &mut [u32]) -> Done
     ensures { λ a. ⌜ AnswersLoop (now (job .entry)) (now (input .entry)) (now (values .entry)) (now (values .exit)) a ⌝ }
 {
-    let r = loops::looped::loop_of_bytes(job, input, &mut values[..]);
+    let r = loops::loop_of_bytes(job, input, &mut values[..]);
     match r {
-        loops::looped::Reply::Points(points) => Done {
+        loops::Reply::Points(points) => Done {
             number: 0,
             count: points,
         },
-        loops::looped::Reply::Refused(number) => Done {
+        loops::Reply::Refused(number) => Done {
             number: wide(number),
             count: 0,
         },

@@ -11,14 +11,14 @@ use crate::tables::is_guarded;
 use crate::tables::is_same;
 use crate::tables::part;
 use crate::tables::rest;
-use array::Answer;
+use answers::Answer;
 use job::Job;
 use verdict::Verdict;
 
 // The replies of run and loop, with the run's value table and so many of 80 places lent; then their values side by side, or that nothing was altered.
 pub fn compare(j: Job, input: &[u32], run: &mut [u32], lent: usize) {
     let mut places = [GUARD; 80];
-    let a = array::answer_of(array::run_of(j, input, &mut run[..], part(&mut places, lent)));
+    let a = answers::answer_of(array::run_of(j, input, &mut run[..], part(&mut places, lent)));
     reply(b"run", a, b" 0 ticks");
     unchanged(a, &run[..], &places);
     beside(j, input, a, &run[..]);
@@ -36,7 +36,7 @@ pub fn unchanged(a: Answer, table: &[u32], places: &[u32]) {
 fn beside(j: Job, input: &[u32], a: Answer, run: &[u32]) {
     let mut looped = [GUARD; 81];
     let n = run.len();
-    let b = points(loops::looped::loop_of(j, input, part(&mut looped, n)));
+    let b = points(loops::loop_of(j, input, part(&mut looped, n)));
     reply(b"loop", b, b" 0 points");
     unchanged(b, &looped, run);
     if a.number == 0 {
@@ -45,21 +45,17 @@ fn beside(j: Job, input: &[u32], a: Answer, run: &[u32]) {
 }
 
 // The loop's reply in numbers: the number of refusal, 0 for none, and the point count.
-fn points(r: loops::looped::Reply) -> Answer {
+fn points(r: loops::Reply) -> Answer {
     match r {
-        loops::looped::Reply::Points(count) => Answer { number: 0, count },
-        loops::looped::Reply::Refused(number) => Answer { number, count: 0 },
+        loops::Reply::Points(count) => Answer { number: 0, count },
+        loops::Reply::Refused(number) => Answer { number, count: 0 },
     }
 }
 
 // A line for each stream.
 fn streams(j: Job, run: &[u32], looped: &[u32]) {
     for s in 0..j.m {
-        stream(
-            s,
-            loops::row::row_of(j, run, s),
-            loops::row::row_of(j, looped, s),
-        );
+        stream(s, rows::row_of(j, run, s), rows::row_of(j, looped, s));
     }
 }
 
@@ -109,7 +105,7 @@ fn is_ticked(j: Job, input: &[u32], ticks: u64, run: &[u32], places: &[u32]) -> 
 fn each_tick(j: Job, input: &[u32], ticks: u64, table: &mut [u32], places: &mut [u32]) -> bool {
     let mut all = true;
     for t in 0..ticks {
-        let a = array::answer_of(array::tick_of(j, t, input, &mut table[..], &mut places[..]));
+        let a = answers::answer_of(array::tick_of(j, t, input, &mut table[..], &mut places[..]));
         all = all & (a.number == 0) & (a.count == ticks);
     }
     all

@@ -1,5 +1,5 @@
 // Words, numbers and lines of output.
-use array::Answer;
+use answers::Answer;
 use libc::STDOUT_FILENO;
 use space::Vector;
 ghost use Prim.Native.Nat.{_<_};

@@ -17,7 +17,7 @@ use Rattle.job.specs.declared.Job.{Job}
 use Rattle.bands.specs.Bands.{rectangleOf, at, arrivalIn, Shifted}
 use Rattle.bands.specs.declared.Band.{Band}
 use Rattle.bands.proofs.BandLaws.{its-place}
-use Rattle.loops.specs.Tables.{points, entryFor}
+use Rattle.tables.specs.Tables.{points, entryFor}
 use Rattle.mapping.specs.Frames.{rectangle, cells, tickOf, cellOf, w, from, held}
 use Rattle.tick.specs.Ticks.{lastOf, works, arrival}
 use Rattle.tick.specs.Steps.{Runnable, Roomy, Band-lent, Slot, putOne, workedOr, Stored}

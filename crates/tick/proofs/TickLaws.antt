@@ -6,7 +6,7 @@ use mathlib.Core.Option.{Option, none, some}
 use Prim.Native.Nat.{ℕ, _<_}
 use Rattle.job.specs.declared.Job.{Job}
 use Rattle.boxes.specs.Boxes.{given}
-use Rattle.loops.specs.Tables.{points, entryFor}
+use Rattle.tables.specs.Tables.{points, entryFor}
 use Rattle.tick.specs.Ticks.{works, pointAt, arrival, fresh, stored, Ticked}
 use Rattle.tick.specs.Steps.{Points, workedOr, Stored}
 use Rattle.tick.proofs.PointLaws.{last-only, works-tells}

@@ -8,10 +8,9 @@ use native.Mathlib.Omega.{arith}
 use lib.ListN.{length, getD}
 use Rattle.job.specs.declared.Job.{Job}
 use Rattle.job.specs.Limits.{Acceptable}
-use Rattle.loops.specs.Tables.{points, entryFor}
-use Rattle.loops.specs.Loops.{previous}
-use Rattle.loops.specs.Steps.{Column}
-use Rattle.loops.proofs.LoopLaws.{same-work}
+use Rattle.tables.specs.Tables.{points, entryFor, previous}
+use Rattle.tables.specs.Columns.{Column}
+use Rattle.tables.proofs.TableLaws.{same-work}
 use Rattle.mapping.specs.Frames.{tickOf, cellOf}
 use Rattle.tick.specs.Ticks.{arrival, incoming, fresh}
 use Rattle.tick.specs.Steps.{Point, Points}

@@ -8,11 +8,10 @@ use Rattle.space.specs.Numbers.{roomLimit}
 use Rattle.boxes.specs.Boxes.{given}
 use Rattle.job.specs.declared.Job.{Job}
 use Rattle.job.specs.Limits.{Acceptable}
-use Rattle.mapping.specs.Mapping.{hop}
 use Rattle.verdict.specs.Rules.{Even}
 use Rattle.bands.specs.Bands.{at, Lent}
 use Rattle.bands.specs.declared.Band.{Band}
-use Rattle.loops.specs.Tables.{points, entryFor}
+use Rattle.tables.specs.Tables.{points, entryFor}
 use Rattle.mapping.specs.Frames.{cells, tickOf, cellOf, w, from, room, held}
 use Rattle.tick.specs.Ticks.{lastOf, works, arrival, fresh}
 use Rattle.frame.specs.declared.Frame.{Frame}

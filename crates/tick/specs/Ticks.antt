@@ -9,9 +9,8 @@ use lib.ListN.{length, drop}
 use Rattle.boxes.specs.Boxes.{backOf, given}
 use Rattle.job.specs.declared.Job.{Job}
 use Rattle.mapping.specs.Mapping.{hop}
-use Rattle.loops.specs.Tables.{points, entryFor}
+use Rattle.tables.specs.Tables.{points, entryFor, previous}
 use Rattle.cell.specs.Cells.{work}
-use Rattle.loops.specs.Loops.{previous}
 use Rattle.mapping.specs.Frames.{rectangle, cells, tickOf, cellOf, w, room, held}
 
 -- the last of the first n numbers that passes a test

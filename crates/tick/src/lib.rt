@@ -4,7 +4,7 @@ mod work;
 
 use frame::Frame;
 use job::Job;
-ghost use Rattle.loops.specs.Tables.{points as pointsOf};
+ghost use Rattle.tables.specs.Tables.{points as pointsOf};
 ghost use Rattle.tick.specs.Ticks.{Ticked};
 ghost use Rattle.tick.specs.Steps.{Tabled, Roomy};
 ghost use Rattle.frame.specs.Framing.{Timed};

@@ -4,7 +4,7 @@ use frame::Frame;
 use job::Job;
 ghost use Prim.Native.Nat.{ℕ, _<_};
 ghost use Rattle.bands.specs.Bands.{at, arrivalIn};
-ghost use Rattle.loops.specs.Tables.{points as pointsOf};
+ghost use Rattle.tables.specs.Tables.{points as pointsOf};
 ghost use Rattle.mapping.specs.Frames.{w};
 ghost use Rattle.tick.specs.Steps.{Tabled, Roomy, Band-lent, Slot, putOne, workedOr, Stored};
 ghost use Rattle.frame.specs.Framing.{Timed};
@@ -28,7 +28,7 @@ fn put_point(
     let line = k as usize;
     if timetable[line] == t {
         let x = frame::cell_at(j, f, boxes::point(j.bounds, k), k);
-        let from = loops::looped::place_in_table(s, f.points, k);
+        let from = tables::place_in_table(s, f.points, k);
         let i = (x * b.w + slot) as usize;
         band[i] = values[from];
     }

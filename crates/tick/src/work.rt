@@ -10,7 +10,7 @@ ghost use lib.ListN.{getD};
 ghost use Rattle.space.specs.Vectors.{entries};
 ghost use Rattle.boxes.specs.Boxes.{pointOf};
 ghost use Rattle.mapping.specs.Mapping.{box};
-ghost use Rattle.loops.specs.Tables.{points as pointsOf};
+ghost use Rattle.tables.specs.Tables.{points as pointsOf};
 ghost use Rattle.mapping.specs.Frames.{tickOf, cells, from as fromOf};
 ghost use Rattle.tick.specs.Ticks.{incoming};
 ghost use Rattle.tick.specs.Steps.{Tabled, Roomy, Point, Points};
@@ -33,14 +33,14 @@ fn incoming_at(
     requires { ⌜ Tabled j f (now input) × Roomy j (now places) × (s < j .m) × (from ≡ fromOf j s) × (x < cells j) × (k < pointsOf j) × Banded j s b × (entries p ≡ pointOf (box j) k) ⌝ }
     ensures { λ r. ⌜ r ≡ incoming j (now (input .entry)) t (now (places .entry)) s x k ⌝ }
 {
-    let found = loops::looped::previous_at(j, s, p, k);
+    let found = tables::previous_at(j, s, p, k);
     match found {
         Found::At(_q) => {
             let end = from + (f.cells * b.w) as usize;
             bands::arriving(&places[from..end], b, t % b.w, x)
         }
         Found::Nowhere => {
-            let i = loops::looped::place_in_table(s, f.points, k);
+            let i = tables::place_in_table(s, f.points, k);
             input[i]
         }
     }
@@ -91,7 +91,7 @@ fn work_column(
 {
     let x = frame::cell_at(j, f, p, k);
     let got = incoming_all(j, f, t, input, places, x, p, k);
-    loops::looped::put_column(j, &mut values[..], f.points, k, got);
+    tables::put_column(j, &mut values[..], f.points, k, got);
 }
 
 // The point at place k is worked, if its tick is t.

@@ -1,3 +1,4 @@
 pub mod Unique
+pub mod Accepted
 pub mod FirstPairs
 pub mod SizeLaws

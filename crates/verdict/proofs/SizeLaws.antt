@@ -10,7 +10,6 @@ use lib.Signed.{_≤ℤ_, quotZ}
 use Rattle.space.specs.Numbers.{up, Size}
 use Rattle.space.specs.Vectors.{Sized, entries}
 use Rattle.boxes.specs.Boxes.{across, countOf, leastOf, greatestOf, reach}
-use Rattle.space.proofs.Parts.{sum}
 use Rattle.space.proofs.Ints.{natAbs-quot}
 use Rattle.space.proofs.VectorLaws.{dot-size, sized-up}
 use Rattle.boxes.proofs.BoxLaws.{sides-sized, across-size}

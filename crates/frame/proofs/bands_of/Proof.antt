@@ -5,7 +5,7 @@ use native.Mathlib.Omega.{arith}
 use Rattle.job.specs.declared.Job.{Job}
 use Rattle.job.specs.Limits.{Acceptable}
 use Rattle.bands.specs.declared.Band.{Band}
-use Rattle.loops.proofs.LoopLaws.{few-streams}
+use Rattle.tables.proofs.TableLaws.{few-streams}
 use Rattle.frame.specs.declared.Bands.{Bands}
 use Rattle.frame.specs.Framing.{Banded, AllBanded}
 use Rattle.frame.proofs.bands_of.Statement.{statement}

@@ -7,8 +7,8 @@ use lib.Seq.{getD-set-other}
 use Rattle.space.specs.Vectors.{entries}
 use Rattle.boxes.specs.Boxes.{pointOf, PointAt}
 use Rattle.mapping.specs.Mapping.{box}
-use Rattle.loops.specs.Tables.{points as pointsOf}
-use Rattle.loops.proofs.LoopLaws.{few-points}
+use Rattle.tables.specs.Tables.{points as pointsOf}
+use Rattle.tables.proofs.TableLaws.{few-points}
 use Rattle.mapping.proofs.Fits.{walkable, some-point, stands-in}
 use Rattle.frame.specs.Framing.{Timed}
 use Rattle.frame.proofs.FrameLaws.{timed-step}

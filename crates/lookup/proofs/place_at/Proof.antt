@@ -8,7 +8,7 @@ use native.Mathlib.Omega.{arith}
 use borrow.Author.Needs.{needs}
 use lib.Dec.{eqb}
 use Rattle.mapping.proofs.Fits.{walkable}
-use Rattle.loops.specs.Tables.{points}
+use Rattle.tables.specs.Tables.{points}
 use Rattle.tick.specs.Ticks.{lastOf, works, pointAt}
 use Rattle.lookup.proofs.place_at.Statement.{statement}
 use Rattle.lookup.proofs.place_at.Tie as tie

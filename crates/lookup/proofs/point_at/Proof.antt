@@ -7,7 +7,7 @@ use Rattle.mapping.proofs.Fits.{walkable}
 use Rattle.verdict.specs.Replies.{Says}
 use Rattle.verdict.specs.declared.Verdict.the-variants.{Accepted}
 use Rattle.tick.specs.Ticks.{works, pointAt}
-use Rattle.array.proofs.ReplyLaws.{not-accepted, accepted-limits, accepted-frames}
+use Rattle.verdict.proofs.Accepted.{not-accepted, accepted-limits, accepted-ahead}
 use Rattle.tick.proofs.PointLaws.{last-below}
 use Rattle.lookup.proofs.point_at.Statement.{statement}
 use Rattle.lookup.proofs.point_at.Tie as tie
@@ -26,7 +26,7 @@ says : (c : tie.After-known-told) → Says (c .before .before .before .before .a
 says c = subst (Says (c .before .before .before .before .args .j)) (c .before .v .given .1) (c .before .before .before .verdict-of .ensures)
 
 frame-of-requires : tie.Need-frame-of-requires
-frame-of-requires c κs = accepted-frames (says c)
+frame-of-requires c κs = accepted-ahead (says c)
 
 place-at-requires : tie.Need-place-at-requires
 place-at-requires c κs = (accepted-limits (says (c .before)), c .frame-of .ensures)

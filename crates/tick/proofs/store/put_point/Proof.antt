@@ -5,8 +5,8 @@ use native.Mathlib.Omega.{arith}
 use lib.ListN.{length, getD}
 use denote.Ref.{now}
 use borrow.Author.Needs.{needs}
-use Rattle.loops.specs.Tables.{points}
-use Rattle.loops.proofs.LoopLaws.{few-points, entry-in}
+use Rattle.tables.specs.Tables.{points}
+use Rattle.tables.proofs.TableLaws.{few-points, entry-in}
 use Rattle.mapping.proofs.Fits.{walkable}
 use Rattle.tick.proofs.StoreLaws.{place-in, put-none, put-one}
 use Rattle.tick.proofs.store.put_point.Statement.{statement}

@@ -3,8 +3,8 @@ use mathlib.Core.Path.{_≡_}
 use Prim.Native.Nat.{_-_, _≤_}
 use native.Mathlib.Omega.{arith}
 use denote.Ref.{now}
-use Rattle.loops.specs.Tables.{points as pointsOf}
-use Rattle.loops.proofs.LoopLaws.{few-points}
+use Rattle.tables.specs.Tables.{points as pointsOf}
+use Rattle.tables.proofs.TableLaws.{few-points}
 use Rattle.tick.specs.Steps.{Slot}
 use Rattle.tick.proofs.StoreLaws.{still-lent, putTo, puts-start, puts-step}
 use Rattle.tick.proofs.store.put_points.Statement.{statement}

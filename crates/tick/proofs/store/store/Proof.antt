@@ -3,7 +3,7 @@ use Prim.Native.Nat.{_+_, _*_, _-_, _<_, _≤_}
 use native.Mathlib.Omega.{arith}
 use lib.ListN.{length}
 use denote.Ref.{now}
-use Rattle.loops.proofs.LoopLaws.{few-streams}
+use Rattle.tables.proofs.TableLaws.{few-streams}
 use Rattle.frame.specs.Framing.{Banded}
 use Rattle.tick.proofs.LendingLaws.{band-is, band-fits, some-delay, band-lent}
 use Rattle.tick.proofs.StoreLaws.{Storing, store-start, store-step, store-end, still-roomy}

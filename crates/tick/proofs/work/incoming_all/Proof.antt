@@ -4,7 +4,7 @@ use Prim.Native.Nat.{ℕ, _+_, _*_, _-_, _<_, _≤_}
 use native.Mathlib.Omega.{arith}
 use lib.ListN.{length}
 use denote.Ref.{now}
-use Rattle.loops.proofs.LoopLaws.{few-streams, Firsts, firsts-step}
+use Rattle.tables.proofs.TableLaws.{few-streams, Firsts, firsts-step}
 use Rattle.mapping.specs.Frames.{from as fromOf}
 use Rattle.tick.specs.Ticks.{incoming}
 use Rattle.frame.specs.Framing.{Banded}

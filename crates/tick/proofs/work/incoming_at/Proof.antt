@@ -6,8 +6,8 @@ use lib.ListN.{length, getD}
 use denote.Ref.{now}
 use borrow.Author.Needs.{needs}
 use Rattle.boxes.specs.Boxes.{countOf, foundOf}
-use Rattle.loops.specs.Tables.{points}
-use Rattle.loops.proofs.LoopLaws.{entry-in}
+use Rattle.tables.specs.Tables.{points}
+use Rattle.tables.proofs.TableLaws.{entry-in}
 use Rattle.tick.proofs.LendingLaws.{band-fits, some-delay, lent, arrives}
 use Rattle.tick.proofs.WorkLaws.{incoming-some, incoming-none}
 use Rattle.tick.proofs.work.incoming_at.Statement.{statement}

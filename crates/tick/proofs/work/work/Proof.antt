@@ -3,8 +3,8 @@ use mathlib.Core.Path.{_≡_, _∙_}
 use Prim.Native.Nat.{_-_, _≤_}
 use native.Mathlib.Omega.{arith}
 use denote.Ref.{now}
-use Rattle.loops.proofs.LoopLaws.{few-points}
-use Rattle.loops.specs.Tables.{points as pointsOf}
+use Rattle.tables.proofs.TableLaws.{few-points}
+use Rattle.tables.specs.Tables.{points as pointsOf}
 use Rattle.tick.specs.Steps.{Points}
 use Rattle.tick.proofs.WorkLaws.{points-start, points-step, points-end}
 use Rattle.tick.proofs.work.work.Statement.{statement}

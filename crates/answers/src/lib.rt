@@ -1,0 +1,83 @@
+// What a run and a single tick answer, and the checks before them.
+use job::Job;
+use verdict::Size;
+use verdict::Verdict;
+ghost use Rattle.answers.specs.Answers.{Answers, Leaves, runChecks};
+
+// What a run or a tick answers: the tick count; the verdict's refusal; 13; 14 and 15 with R; 16.
+pub enum Reply {
+    Ticks(u64),
+    Refused(Verdict),
+    Tables,
+    Large(u64),
+    Few(u64),
+    Late,
+}
+
+// The same in numbers: the number of refusal, 0 for none, and the tick count, or R for 14 and 15.
+pub struct Answer {
+    pub number: u8,
+    pub count: u64,
+}
+
+// What the checks before a run leave: the sizes of an array that may run, or the reply that refuses it.
+pub enum Checked {
+    Passed(Size),
+    Refused(Reply),
+}
+
+// What a reply answers.
+pub fn answer_of(r: Reply) -> Answer
+    ensures { λ a. ⌜ Answers r a ⌝ }
+{
+    match r {
+        Reply::Ticks(n) => Answer {
+            number: 0,
+            count: n,
+        },
+        Reply::Refused(v) => {
+            let a = replies::numbers::answer_of(v);
+            Answer {
+                number: a.number,
+                count: 0,
+            }
+        }
+        Reply::Tables => Answer {
+            number: 13,
+            count: 0,
+        },
+        Reply::Large(room) => Answer {
+            number: 14,
+            count: room,
+        },
+        Reply::Few(room) => Answer {
+            number: 15,
+            count: room,
+        },
+        Reply::Late => Answer {
+            number: 16,
+            count: 0,
+        },
+    }
+}
+
+// The checks of a run, with tables and places so long: the verdict's, then 13 to 15.
+pub fn check(j: Job, input: usize, values: usize, places: usize) -> Checked
+    ensures { λ r. ⌜ Leaves j (runChecks j input values places) r ⌝ }
+{
+    let v = verdict::verdict_of(j);
+    let Verdict::Accepted(size) = v else {
+        return Checked::Refused(Reply::Refused(v));
+    };
+    let table = tables::place_in_table(j.m, boxes::count(j.bounds), 0);
+    if (input != table) | (values != table) {
+        return Checked::Refused(Reply::Tables);
+    }
+    if 8192 < size.room {
+        return Checked::Refused(Reply::Large(size.room));
+    }
+    if (places as u64) < size.room {
+        return Checked::Refused(Reply::Few(size.room));
+    }
+    Checked::Passed(size)
+}

@@ -1,0 +1,35 @@
+// One stream's row of a table, as a part of the table itself.
+use job::Job;
+use reader::Reply;
+ghost use Rattle.rows.specs.Rows.{Row, RowOf};
+
+// The row of stream s, or the empty part at the front.
+pub fn row_of<'a>(j: Job, table: &'a [u32], s: u8) -> &'a [u32]
+    ensures { λ r. ⌜ Row j (now (table .entry)) s (now r) ⌝ }
+{
+    if job::limits::number(j) != 0 {
+        return &table[..0];
+    }
+    let m = j.m as usize;
+    let points = boxes::count(j.bounds) as usize;
+    if table.len() != m * points {
+        return &table[..0];
+    }
+    if j.m <= s {
+        return &table[..0];
+    }
+    let from = (s as usize) * points;
+    let end = from + points;
+    &table[from..end]
+}
+
+// The same of the job that the bytes are.
+pub fn row_of_bytes<'a, 'b>(bytes: &'b [u8], table: &'a [u32], s: u8) -> &'a [u32]
+    ensures { λ r. ⌜ RowOf (now (bytes .entry)) (now (table .entry)) s (now r) ⌝ }
+{
+    let read = reader::read(bytes);
+    match read {
+        Reply::Refused(_number) => &table[..0],
+        Reply::Job(j) => row_of(j, table, s),
+    }
+}

@@ -1,0 +1,90 @@
+-- Laws of the tables: the point before one stands before it, where an entry stands, and a column that is worked.
+use mathlib.Core.Path.{_≡_, refl, sym, _∙_}
+use mathlib.Core.Logic.{⊎-elim}
+use mathlib.Core.List.{List}
+use mathlib.Core.Option.{some}
+use Prim.Native.Nat.{ℕ, _+_, _*_, _/_, _%_, _<_, _≤_}
+use native.Mathlib.Decide.{ℕ-discrete}
+use native.Mathlib.Omega.{arith}
+use lib.Arith.{digits-lt}
+use lib.ListN.{length, getD, set, length-set}
+use lib.Seq.{getD-set-same, getD-set-other, ext-getD}
+use Rattle.boxes.proofs.BackLaws.{back-before}
+use Rattle.job.specs.declared.Job.{Job}
+use Rattle.job.specs.Refusals.{done}
+use Rattle.job.specs.Limits.{Acceptable}
+use Rattle.job.proofs.Accepting.{stream-sound}
+use Rattle.mapping.specs.Mapping.{box, stream, along}
+use Rattle.mapping.proofs.Fits.{some-point}
+use Rattle.tables.specs.Tables.{points, entryFor, previous}
+use Rattle.cell.specs.Cells.{ruled, work}
+use Rattle.tables.specs.Columns.{Column}
+use Rattle.space.proofs.Rows.{spots}
+use native.Mathlib.Nat.{div-add-mod', mod-lt, div-lt-iff-lt-mul}
+
+-- ---- the point before one
+-- it stands before: d points forward
+pub previous-before : (j : Job) → Acceptable j → (s k q : ℕ) → s < j .m → k < points j → previous j s k ≡ some q → q < k
+previous-before j a s k q ls lk e = back-before (box j) (along j s) k q (stream-sound j a s ls .forward) refl lk e
+
+-- ---- tables
+-- the entry of a stream and a point stands in the table
+pub entry-in : (j : Job) (s k : ℕ) → s < j .m → k < points j → s * points j + k < j .m * points j
+entry-in j s k ls lk = digits-lt ls lk
+
+-- tables with the same entries are the same
+pub tables-same : (j : Job) → Acceptable j → (v w : List ℕ) → length v ≡ j .m * points j → length w ≡ j .m * points j → ((s k : ℕ) → s < j .m → k < points j → entryFor j v s k ≡ entryFor j w s k) → v ≡ w
+tables-same j a v w ev ew same = ext-getD 0 v w (ev ∙ sym ew) at
+  where
+    at : (i : ℕ) → i < length v → getD v i 0 ≡ getD w i 0
+    at i h =
+        let n = some-point a in
+        let l : i < j .m * points j = omega (arith, ev) in
+        rw div-add-mod' at (same (i / points j) (i % points j) (div-lt-iff-lt-mul n .1 l) (mod-lt i n))
+
+-- an acceptable job has at most 4 streams and 1,024 points
+pub few-streams : {j : Job} → Acceptable j → j .m ≤ 4
+few-streams a = a .shaped .streams .1
+
+pub few-points : {j : Job} → Acceptable j → points j ≤ 1024
+few-points a = a .boxed .points
+
+-- the sources of a stream are streams
+pub sources : (j : Job) → Acceptable j → (s : ℕ) → s < j .m → (stream j s .a < j .m) × (stream j s .b < j .m)
+sources j a s h = let m = a .shaped .streams in ⊎-elim (λ r. (omega arith, omega arith)) (λ r. (r .2, r .3)) (stream-sound j a s h .ruled)
+
+-- the work depends on what came in on the job's streams alone
+pub same-work : (j : Job) → Acceptable j → (s : ℕ) → s < j .m → (f g : ℕ → ℕ) → ((u : ℕ) → u < j .m → f u ≡ g u) → work j s f ≡ work j s g
+same-work j a s h f g e =
+    let q = sources j a s h in
+    same (stream j s .rule) (e s h) (e (stream j s .a) (q .0)) (e (stream j s .b) (q .1))
+  where
+    same : (r : ℕ) {x y z x′ y′ z′ : ℕ} → x ≡ x′ → y ≡ y′ → z ≡ z′ → ruled r x y z ≡ ruled r x′ y′ z′
+    same r e f g = rw (e, f, g)
+
+-- the first s numbers of an array of four
+pub record Firsts (f : ℕ → ℕ) (got : List ℕ) (s : ℕ) : Type 0 where
+  pub four : length got ≡ 4
+  pub done : (u : ℕ) → u < s → getD got u 0 ≡ f u
+
+pub firsts-step : {f : ℕ → ℕ} {got : List ℕ} {s : ℕ} (v : ℕ) → Firsts f got s → s < 4 → v ≡ f s → Firsts f (set got s v) (s + 1)
+firsts-step {f} {got} {s} v d ls ev = record { four = length-set got s v ∙ d .four; done = λ u lu. go u lu (ℕ-discrete u s) }
+  where
+    go : (u : ℕ) → u < s + 1 → Dec (u ≡ s) → getD (set got s v) u 0 ≡ f u
+    go u lu (yes e) = rw e (getD-set-same got s v 0 (omega (arith, d .four)) ∙ ev)
+    go u lu (no ne) = getD-set-other got s u v 0 ne ∙ d .done u (omega arith)
+
+-- ---- a column
+pub column-start : (j : Job) (k : ℕ) (got l : List ℕ) → length l ≡ j .m * points j → Column j k got l 0 l
+column-start j k got l e = record { size = e; here = λ s h. absurd (omega arith); others = λ s q ls lq ne. refl }
+
+pub column-step : (j : Job) (k : ℕ) (got l now : List ℕ) (s v : ℕ) → Column j k got l s now → s < j .m → k < points j → v ≡ work j s (λ (u : ℕ). getD got u 0) → Column j k got l (s + 1) (set now (s * points j + k) v)
+column-step j k got l now s v c ls lk ev =
+    record { size = length-set now (s * points j + k) v ∙ c .size; here = λ u lu. go u lu (ℕ-discrete u s); others = λ u q lu lq ne. away u q lq (λ e. ne (e .1)) ∙ c .others u q lu lq ne }
+  where
+    away : (u q : ℕ) → q < points j → ((u ≡ s) × (q ≡ k) → ⊥) → entryFor j (set now (s * points j + k) v) u q ≡ entryFor j now u q
+    away u q lq ne = getD-set-other now (s * points j + k) (u * points j + q) v 0 (λ e. ne (spots (points j) s u k q lk lq e))
+
+    go : (u : ℕ) → u < s + 1 → Dec (u ≡ s) → entryFor j (set now (s * points j + k) v) u k ≡ work j u (λ (t : ℕ). getD got t 0)
+    go u lu (yes e) = rw e (getD-set-same now (s * points j + k) v 0 (omega (arith, entry-in j s k ls lk, c .size)) ∙ ev)
+    go u lu (no ne) = away u k lk (λ e. ne (e .0)) ∙ c .here u (omega arith)

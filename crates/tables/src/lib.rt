@@ -1,0 +1,46 @@
+// The tables of a job: where an entry stands, the point before one, and the work at one point.
+use boxes::Found;
+use job::Job;
+use space::Vector;
+ghost use mathlib.Core.Path.{_≡_};
+ghost use Prim.Native.Nat.{_+_, _*_, _<_, _≤_};
+ghost use Rattle.space.specs.Vectors.{entries};
+ghost use Rattle.boxes.specs.Boxes.{pointOf, foundOf};
+ghost use Rattle.job.specs.Limits.{Acceptable};
+ghost use Rattle.mapping.specs.Mapping.{box};
+ghost use Rattle.tables.specs.Tables.{points as pointsOf, previous};
+ghost use Rattle.tables.specs.Columns.{Ready, Column};
+
+// Where a table of so many points holds the entry for stream s and the point at place k.
+pub fn place_in_table(s: u8, points: u64, k: u64) -> usize
+    requires { ⌜ (s ≤ 4) × (points ≤ 1024) × (k ≤ 1024) ⌝ }
+    ensures few { λ r. ⌜ r ≤ 5120 ⌝ }
+    ensures is { λ r. ⌜ r ≡ s * points + k ⌝ }
+{
+    ((s as u64) * points + k) as usize
+}
+
+// The place of the point before p, the point at place k, on stream s.
+pub fn previous_at(j: Job, s: u8, p: Vector, k: u64) -> Found
+    requires { ⌜ Acceptable j × (s < j .m) × (k < pointsOf j) × (entries p ≡ pointOf (box j) k) ⌝ }
+    ensures { λ r. ⌜ foundOf r ≡ previous j s k ⌝ }
+{
+    let stream = job::stream_at(j, s);
+    boxes::back(j.bounds, stream.d, p)
+}
+
+// The work at the point at place k, from what came in there.
+pub fn put_column(j: Job, values: &mut [u32], points: u64, k: u64, got: [u32; 4])
+    requires { ⌜ Ready j (now values) points × (k < points) ⌝ }
+    ensures { λ _. ⌜ Column j k got (now (values .entry)) (j .m) (now (values .exit)) ⌝ }
+{
+    let m = j.m;
+    let mut s: u8 = 0;
+    while s < m {
+        let t = job::stream_at(j, s);
+        let v = cell::new_value(t, s as usize, got);
+        let i = place_in_table(s, points, k);
+        values[i] = v;
+        s += 1;
+    }
+}
