@@ -1,11 +1,11 @@
 use mathlib.Core.List.{[], _∷_}
 use lib.IntN.{pos}
-use Rattle.line.specs.Lines.{field, lineFields}
+use Rattle.fields.specs.Fields.{field, lineFields}
 use Rattle.print.specs.declared.words.Word.the-variants as Word
-use Rattle.line.proofs.Rows.{room-first, room-rest, put-rest}
+use Rattle.fields.proofs.Rows.{room-first, room-rest, put-rest}
 use borrow.Author.Needs.{needs}
-use Rattle.line.proofs.fields.put_cell.Statement.{statement}
-use Rattle.line.proofs.fields.put_cell.Tie as tie
+use Rattle.fields.proofs.put_cell.Statement.{statement}
+use Rattle.fields.proofs.put_cell.Tie as tie
 
 put-refused-requires : tie.Need-put-refused-requires
 unfolding lineFields

@@ -9,7 +9,7 @@ use Rattle.space.proofs.Machine.{held, back}
 use Rattle.print.specs.Put.{Fits, Put}
 use Rattle.print.specs.Decimal.{decimal}
 use Rattle.print.specs.Words.{wordBytes}
-use Rattle.line.specs.Lines.{Field, field, fieldsBytes}
+use Rattle.fields.specs.Fields.{Field, field, fieldsBytes}
 use Rattle.print.specs.declared.words.Word.{Word}
 use Rattle.print.proofs.Putting.{and-then, first, left, put-as, fits-as}
 

@@ -1,11 +1,11 @@
 use lib.ListN.{take}
 use Rattle.space.specs.Vectors.{entries}
-use Rattle.line.specs.Lines.{coordinates, pairFields}
+use Rattle.fields.specs.Fields.{coordinates, pairFields}
 use Rattle.print.specs.declared.words.Word.the-variants as Word
-use Rattle.line.proofs.Rows.{room-first, room-rest, put-rest}
+use Rattle.fields.proofs.Rows.{room-first, room-rest, put-rest}
 use borrow.Author.Needs.{needs}
-use Rattle.line.proofs.fields.put_pair.Statement.{statement}
-use Rattle.line.proofs.fields.put_pair.Tie as tie
+use Rattle.fields.proofs.put_pair.Statement.{statement}
+use Rattle.fields.proofs.put_pair.Tie as tie
 
 put-point-requires : tie.Need-put-point-requires
 unfolding pairFields

@@ -11,7 +11,7 @@ ghost use lib.IntN.{pos};
 ghost use lib.ListN.{take};
 ghost use Rattle.space.specs.Vectors.{entries};
 ghost use Rattle.print.specs.Put.{Fits, Put};
-ghost use Rattle.line.specs.Lines.{field, fieldsBytes, coordinates, pairFields, sizeFields, lineFields};
+ghost use Rattle.fields.specs.Fields.{field, fieldsBytes, coordinates, pairFields, sizeFields, lineFields};
 
 // Coordinate number k, where n are shown.
 fn put_coordinate(out: &mut [u8], at: usize, n: u8, k: u8, w: Word, x: i64) -> usize

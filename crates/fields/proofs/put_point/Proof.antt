@@ -1,9 +1,9 @@
 -- One coordinate after the other.
 use Rattle.space.proofs.Machine.{in-range}
-use Rattle.line.proofs.Coordinates.{room0, room1, room2, room3, put-all}
+use Rattle.fields.proofs.Coordinates.{room0, room1, room2, room3, put-all}
 use borrow.Author.Needs.{needs}
-use Rattle.line.proofs.fields.put_point.Statement.{statement}
-use Rattle.line.proofs.fields.put_point.Tie as tie
+use Rattle.fields.proofs.put_point.Statement.{statement}
+use Rattle.fields.proofs.put_point.Tie as tie
 
 put-coordinate-requires : tie.Need-put-coordinate-requires
 put-coordinate-requires c κs =

@@ -2,11 +2,11 @@
 use mathlib.Core.Path.{_≡_, ap}
 use Prim.Native.Nat.{ℕ}
 use Rattle.verdict.specs.declared.Verdict.{Verdict}
-use Rattle.line.specs.Lines.{fieldsBytes, lineFields}
+use Rattle.fields.specs.Fields.{fieldsBytes, lineFields}
 use Rattle.print.proofs.Putting.{put-as, fits-as}
 use borrow.Author.Needs.{needs}
-use Rattle.line.proofs.fields.put_fields.Statement.{statement}
-use Rattle.line.proofs.fields.put_fields.Tie as tie
+use Rattle.fields.proofs.put_fields.Statement.{statement}
+use Rattle.fields.proofs.put_fields.Tie as tie
 
 same : (n : ℕ) {v w : Verdict} → v ≡ w → fieldsBytes (lineFields n v) ≡ fieldsBytes (lineFields n w)
 same n e = ap (λ (v : Verdict). fieldsBytes (lineFields n v)) e

@@ -1,11 +1,11 @@
 use mathlib.Core.Path.{ap}
-use Rattle.line.specs.Lines.{fieldsBytes}
+use Rattle.fields.specs.Fields.{fieldsBytes}
 use Rattle.print.proofs.Putting.{none, put-as, fits-as}
-use Rattle.line.proofs.Rows.{fieldBytes, room-head, put-last, room-held, put-held}
-use Rattle.line.proofs.Coordinates.{shown, hidden}
+use Rattle.fields.proofs.Rows.{fieldBytes, room-head, put-last, room-held, put-held}
+use Rattle.fields.proofs.Coordinates.{shown, hidden}
 use borrow.Author.Needs.{needs}
-use Rattle.line.proofs.fields.put_coordinate.Statement.{statement}
-use Rattle.line.proofs.fields.put_coordinate.Tie as tie
+use Rattle.fields.proofs.put_coordinate.Statement.{statement}
+use Rattle.fields.proofs.put_coordinate.Tie as tie
 
 returns : tie.Need-returns
 unfolding fieldsBytes

@@ -1,12 +1,12 @@
 use mathlib.Core.List.{[], _∷_}
 use lib.IntN.{pos}
-use Rattle.line.specs.Lines.{field, lineFields}
+use Rattle.fields.specs.Fields.{field, lineFields}
 use Rattle.print.specs.declared.words.Word.the-variants as Word
 use Rattle.space.proofs.Machine.{in-range}
-use Rattle.line.proofs.Rows.{fieldBytes, room-first, room-rest, put-rest, room-head, put-last, room-held, put-held}
+use Rattle.fields.proofs.Rows.{fieldBytes, room-first, room-rest, put-rest, room-head, put-last, room-held, put-held}
 use borrow.Author.Needs.{needs}
-use Rattle.line.proofs.fields.put_link.Statement.{statement}
-use Rattle.line.proofs.fields.put_link.Tie as tie
+use Rattle.fields.proofs.put_link.Statement.{statement}
+use Rattle.fields.proofs.put_link.Tie as tie
 
 put-named-requires : tie.Need-put-named-requires
 unfolding lineFields

@@ -12,11 +12,11 @@ use Rattle.space.specs.Vectors.{entries}
 use Rattle.space.specs.declared.Vector.{Vector}
 use Rattle.space.proofs.Machine.{held}
 use Rattle.print.specs.Put.{Fits, Put}
-use Rattle.line.specs.Lines.{Field, field, fieldsBytes, coordinates}
+use Rattle.fields.specs.Fields.{Field, field, fieldsBytes, coordinates}
 use Rattle.print.specs.declared.words.Word.{Word}
 use Rattle.print.specs.declared.words.Word.the-variants as Word
 use Rattle.print.proofs.Putting.{put-as, fits-as}
-use Rattle.line.proofs.Rows.{room-first, room-rest, put-rest, room-held, put-held}
+use Rattle.fields.proofs.Rows.{room-first, room-rest, put-rest, room-held, put-held}
 
 -- coordinate k, where n are shown
 pub shown : (w : Word) (x : ℤ) (n k : ℕ) → k < n → coordinates w (take (n - k) (x ∷ [])) ≡ field w x ∷ []
