@@ -6,11 +6,11 @@ use native.Mathlib.Omega.{arith}
 use denote.Ref.{now}
 use lib.ListN.{take}
 use borrow.Author.Needs.{needs}
-use Rattle.writer.specs.Writing.{over}
-use Rattle.writer.proofs.Joined.{box-take}
-use Rattle.writer.proofs.Fitting.{sized-held}
-use Rattle.writer.proofs.put_box.Statement.{statement}
-use Rattle.writer.proofs.put_box.Tie as tie
+use Rattle.file.specs.Files.{over}
+use Rattle.file.proofs.Joined.{box-take}
+use Rattle.file.proofs.Fitting.{sized-held}
+use Rattle.file.proofs.put_box.Statement.{statement}
+use Rattle.file.proofs.put_box.Tie as tie
 
 vector-bytes-requires : tie.Need-vector-bytes-requires
 vector-bytes-requires c κs = sized-held (omega arith) (c .before .before .before .before .pre .0 .boxed .low)

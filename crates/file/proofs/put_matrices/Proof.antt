@@ -8,10 +8,10 @@ use borrow.Author.Needs.{needs}
 use Rattle.job.specs.Record.{rowsOf, zeroVector}
 use Rattle.layout.specs.Layout.{vectorBytes, matrixBytes}
 use Rattle.layout.proofs.Injective.{vector-length}
-use Rattle.writer.proofs.Laying.{Putting, begin, room, onward}
-use Rattle.writer.proofs.Fitting.{row-held}
-use Rattle.writer.proofs.put_matrices.Statement.{statement}
-use Rattle.writer.proofs.put_matrices.Tie as tie
+use Rattle.file.proofs.Laying.{Putting, begin, room, onward}
+use Rattle.file.proofs.Fitting.{row-held}
+use Rattle.file.proofs.put_matrices.Statement.{statement}
+use Rattle.file.proofs.put_matrices.Tie as tie
 
 abbrev Inv-loop : tie.InvT-loop
 Inv-loop buf₀ from j n k i₀ at₀ buf i at = Putting (vectorBytes 1 (j .n)) (j .n) (rowsOf j) buf₀ from (1 + j .k) buf i at

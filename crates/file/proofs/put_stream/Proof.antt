@@ -8,9 +8,9 @@ use lib.ListN.{length}
 use borrow.Author.Needs.{needs}
 use Rattle.layout.specs.Layout.{vectorBytes}
 use Rattle.layout.proofs.Injective.{vector-length}
-use Rattle.writer.proofs.Laying.{puts-both}
-use Rattle.writer.proofs.put_stream.Statement.{statement}
-use Rattle.writer.proofs.put_stream.Tie as tie
+use Rattle.file.proofs.Laying.{puts-both}
+use Rattle.file.proofs.put_stream.Statement.{statement}
+use Rattle.file.proofs.put_stream.Tie as tie
 
 put-vector-requires : tie.Need-put-vector-requires
 put-vector-requires c κs = search needs

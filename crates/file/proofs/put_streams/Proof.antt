@@ -8,10 +8,10 @@ use borrow.Author.Needs.{needs}
 use Rattle.job.specs.Record.{streamsOf, noStream}
 use Rattle.layout.specs.Layout.{streamBytes, streamsBytes}
 use Rattle.layout.proofs.Injective.{stream-length}
-use Rattle.writer.proofs.Laying.{Putting, begin, room, onward}
-use Rattle.writer.proofs.Fitting.{stream-held}
-use Rattle.writer.proofs.put_streams.Statement.{statement}
-use Rattle.writer.proofs.put_streams.Tie as tie
+use Rattle.file.proofs.Laying.{Putting, begin, room, onward}
+use Rattle.file.proofs.Fitting.{stream-held}
+use Rattle.file.proofs.put_streams.Statement.{statement}
+use Rattle.file.proofs.put_streams.Tie as tie
 
 abbrev Inv-loop : tie.InvT-loop
 Inv-loop buf₀ from j n m i₀ at₀ buf i at = Putting (streamBytes 1 (j .n)) (j .n + 4) (streamsOf j) buf₀ from (j .m) buf i at

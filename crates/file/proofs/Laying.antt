@@ -7,10 +7,9 @@ use native.Mathlib.Nat.{suc-mul, add-mul, one-mul, mul-le-mul-right}
 use lib.ListN.{length, getD, take, length-append, take-append-drop}
 use lib.Seq.{paste, length-paste-head, take-append-seam, drop-append-add, drop-drop, length-take-le}
 use Rattle.layout.specs.Layout.{joined}
-use Rattle.writer.specs.Writing.{over}
-use Rattle.writer.specs.Putting.{Puts}
+use Rattle.file.specs.Files.{over, Puts}
 use Rattle.layout.proofs.Injective.{joined-length}
-use Rattle.writer.proofs.Joined.{joined-more}
+use Rattle.file.proofs.Joined.{joined-more}
 
 -- laid over what was laid, a longer front covers all of it
 over-over : (L X before : List ℕ) → over (L ++ X) (over L before) ≡ over (L ++ X) before

@@ -1,9 +1,9 @@
 -- The first n of the four bytes are those of the first n entries.
 use mathlib.Core.Path.{_∙_}
 use borrow.Author.Needs.{needs}
-use Rattle.writer.proofs.Joined.{vector-take}
-use Rattle.writer.proofs.put_vector.Statement.{statement}
-use Rattle.writer.proofs.put_vector.Tie as tie
+use Rattle.file.proofs.Joined.{vector-take}
+use Rattle.file.proofs.put_vector.Statement.{statement}
+use Rattle.file.proofs.put_vector.Tie as tie
 
 vector-bytes-requires : tie.Need-vector-bytes-requires
 vector-bytes-requires c κs = search needs

@@ -7,9 +7,9 @@ use Rattle.layout.specs.Layout.{complement, InByte}
 use Rattle.layout.proofs.Entries.{in-size}
 use Rattle.space.proofs.Machine.{held, as-held}
 use Rattle.space.proofs.VectorLaws.{four}
-use Rattle.writer.proofs.Fitting.{one-byte}
-use Rattle.writer.proofs.vector_bytes.Statement.{statement}
-use Rattle.writer.proofs.vector_bytes.Tie as tie
+use Rattle.file.proofs.Fitting.{one-byte}
+use Rattle.file.proofs.vector_bytes.Statement.{statement}
+use Rattle.file.proofs.vector_bytes.Tie as tie
 
 -- a byte, as `byte_of` gives it, and as the layout says it
 byte : {z : ℤ} {b : ℕ} → InByte z → b ≡ complement 1 (held z) → b ≡ complement 1 z % 256

@@ -6,9 +6,9 @@ use native.Mathlib.Numerals.{add-one}
 use native.Mathlib.Omega.{arith}
 use mathlib.Core.Path.{_≡_, refl, _∙_}
 use Prim.Native.Nat.{_-_, _≤_}
-use Rattle.writer.proofs.Laying.{puts-copy}
-use Rattle.writer.proofs.copy_at.Statement.{statement}
-use Rattle.writer.proofs.copy_at.Tie as tie
+use Rattle.file.proofs.Laying.{puts-copy}
+use Rattle.file.proofs.copy_at.Statement.{statement}
+use Rattle.file.proofs.copy_at.Tie as tie
 
 abbrev Inv-loop : tie.InvT-loop
 Inv-loop buf₀ at src n i₀ buf i = (i ≤ n) × (buf ≡ paste buf₀ at src i) × (length buf ≡ length buf₀)

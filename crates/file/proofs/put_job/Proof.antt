@@ -7,11 +7,11 @@ use denote.Ref.{now}
 use lib.ListN.{length, length-append}
 use borrow.Author.Needs.{needs}
 use Rattle.layout.specs.Layout.{headerOf, boxBytes, streamsBytes, matrixBytes, fileOf, streamsFrom, matricesFrom}
-use Rattle.writer.specs.Writing.{over}
+use Rattle.file.specs.Files.{over}
 use Rattle.layout.proofs.Injective.{header-length, box-length, streams-length}
-use Rattle.writer.proofs.Laying.{puts-next}
-use Rattle.writer.proofs.put_job.Statement.{statement}
-use Rattle.writer.proofs.put_job.Tie as tie
+use Rattle.file.proofs.Laying.{puts-next}
+use Rattle.file.proofs.put_job.Statement.{statement}
+use Rattle.file.proofs.put_job.Tie as tie
 
 wide-requires : tie.Need-wide-requires
 wide-requires c κs = search needs
