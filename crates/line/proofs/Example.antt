@@ -15,7 +15,8 @@ use Rattle.verdict.specs.declared.Verdict.the-variants.{Accepted, Link}
 use Rattle.decisions.proofs.Answer.{answer}
 use Rattle.print.specs.Decimal.{digits, decimal}
 use Rattle.print.specs.Words.{wordBytes}
-use Rattle.line.specs.Lines.{fieldsBytes, coordinates, pairFields, lineFields, lineOf}
+use Rattle.fields.specs.Fields.{fieldsBytes, coordinates, pairFields, lineFields}
+use Rattle.line.specs.Lines.{lineOf}
 use Rattle.line.specs.Bytes.{Prints}
 use Rattle.line.proofs.Printing.{prints-job}
 

@@ -15,7 +15,8 @@ use Rattle.replies.specs.Bytes.{SaysOf}
 use Rattle.verdict.specs.declared.Verdict.{Verdict}
 use Rattle.verdict.specs.declared.Verdict.the-variants.{Limit}
 use Rattle.replies.proofs.Unique.{says-of-unique}
-use Rattle.line.specs.Lines.{lineFields, lineOf, longest, Writes}
+use Rattle.fields.specs.Fields.{lineFields}
+use Rattle.line.specs.Lines.{lineOf, longest, Writes}
 use Rattle.line.specs.Bytes.{Prints, WritesOf}
 
 -- the line of bytes that are refused, and of bytes that are a job

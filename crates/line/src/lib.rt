@@ -1,6 +1,4 @@
 // The printed line of a verdict, made in a lent buffer by a line writer that holds it.
-mod fields;
-
 use print::words::Word;
 use reader::Reply;
 use verdict::Verdict;
@@ -20,7 +18,7 @@ pub fn write_line(out: &mut [u8], n: u8, v: Verdict) -> usize
     if out.len() < LONGEST {
         return 0;
     }
-    let i = crate::fields::put_fields(out, 0, n, v);
+    let i = fields::put_fields(out, 0, n, v);
     print::held::put_close(out, i, Word::Nothing, Word::End)
 }
 

@@ -15,7 +15,8 @@ use Rattle.reader.specs.declared.Reply.the-variants as Reply
 use Rattle.reader.proofs.Theorems.{reads-unique}
 use Rattle.writer.specs.declared.Wrote.{Wrote}
 use Rattle.writer.specs.declared.Wrote.the-variants.{Total, Refused, Short}
-use Rattle.writer.specs.Writing.{Writes, over}
+use Rattle.file.specs.Files.{over}
+use Rattle.writer.specs.Writing.{Writes}
 use Rattle.writer.proofs.Theorems.{written}
 
 -- reading what was written gives the job, and no other reply

@@ -1,23 +1,16 @@
 -- Writing a job file: refusals 3, 6, 7, 8 and 17, and what the lent bytes then hold.
 use mathlib.Core.Path.{_≡_}
-use mathlib.Core.List.{List, _++_}
+use mathlib.Core.List.{List}
 use Prim.Native.Nat.{ℕ, _≤_, _<_}
-use lib.ListN.{length, drop}
+use lib.ListN.{length}
 use Rattle.job.specs.declared.Job.{Job}
 use Rattle.job.specs.Refusals.{First}
 use Rattle.job.specs.Limits.{limits, Acceptable}
-use Rattle.layout.specs.Layout.{totalOf, fileOf}
+use Rattle.layout.specs.Layout.{fileOf}
+use Rattle.file.specs.Files.{totalFor, over}
 use Rattle.writer.specs.declared.Answer.{Answer}
 use Rattle.writer.specs.declared.Wrote.{Wrote}
 use Rattle.writer.specs.declared.Wrote.the-variants.{Total, Refused, Short}
-
--- the total of the job's file
-abbrev pub totalFor : Job → ℕ
-totalFor j = totalOf 1 (j .n) (j .k) (j .m)
-
--- the file over the first total bytes, the others as they were
-abbrev pub over : List ℕ → List ℕ → List ℕ
-over file before = file ++ drop (length file) before
 
 -- what a reply says of the job and of the lent bytes, before and after
 abbrev pub Writes : Job → List ℕ → List ℕ → Wrote → Type 0

@@ -1,10 +1,9 @@
 -- Nothing is put before the limits are kept and the room is there.
-use mathlib.Core.Path.{_≡_, refl, _∙_}
-use Prim.Native.Nat.{_≤_}
+use mathlib.Core.Path.{_≡_, refl}
 use borrow.Author.Needs.{needs}
 use Rattle.job.specs.Limits.{Acceptable}
 use Rattle.job.proofs.Refusing.{accepted}
-use Rattle.writer.specs.Writing.{totalFor}
+use Rattle.file.specs.Files.{totalFor}
 use Rattle.writer.proofs.write.Statement.{statement}
 use Rattle.writer.proofs.write.Tie as tie
 
@@ -14,14 +13,14 @@ number-requires c κs = search needs
 returns : tie.Need-returns
 returns c = search needs
 
-wide-requires : tie.Need-wide-requires
-wide-requires c κs = search needs
+cast-total-of : tie.Need-cast-total-of
+cast-total-of c = search needs
 
-wide-requires-2 : tie.Need-wide-requires-2
-wide-requires-2 c κs = search needs
+cast-total-of-2 : tie.Need-cast-total-of-2
+cast-total-of-2 c = search needs
 
-wide-requires-3 : tie.Need-wide-requires-3
-wide-requires-3 c κs = search needs
+cast-total-of-3 : tie.Need-cast-total-of-3
+cast-total-of-3 c = search needs
 
 -- past the limits
 accept : (c : tie.Else1) → Acceptable (c .before .before .before .args .j)
@@ -30,14 +29,11 @@ accept c = let e : c .before .number .result ≡ 0 = c .if1 .left in accepted (c
 total-of-requires : tie.Need-total-of-requires
 total-of-requires c κs =
     let s = accept (c .before .before .before) .shaped in
-    let n : c .before .before .wide .result ≤ 4 = rw (c .before .before .wide .ensures) (s .dimensions .1) in
-    let k : c .before .wide2 .result ≤ 2 = rw (c .before .wide2 .ensures) (s .places .1) in
-    let m : c .wide3 .result ≤ 4 = rw (c .wide3 .ensures) (s .streams .1) in
-    (n, k, m)
+    (s .dimensions .1, s .places .1, s .streams .1)
 
 -- the total that is asked for
 total : (c : tie.After-total-of) → c .total-of .result ≡ totalFor (c .before .before .before .before .before .before .before .args .j)
-total c = c .total-of .ensures ∙ rw (c .before .before .before .wide .ensures, c .before .before .wide2 .ensures, c .before .wide3 .ensures)
+total c = c .total-of .ensures
 
 returns-2 : tie.Need-returns-2
 returns-2 c = (accept (c .before .before .before .before .before), total (c .before), c .if2 .taken, refl)
@@ -52,4 +48,4 @@ returns-3 : tie.Need-returns-3
 returns-3 c = (accept (c .before .before .before .before .before .before .before .before .before), total (c .before .before .before .before .before), c .before .before .before .before .if2 .left, c .before .before .put-job .ensures)
 
 pub write-spec : {M : Type 1} → statement M
-write-spec = tie.close (tie.spec number-requires returns wide-requires wide-requires-2 wide-requires-3 total-of-requires returns-2 put-job-requires same-length returns-3)
+write-spec = tie.close (tie.spec number-requires returns cast-total-of cast-total-of-2 cast-total-of-3 total-of-requires returns-2 put-job-requires same-length returns-3)
