@@ -4,8 +4,8 @@ use native.Mathlib.Omega.{arith}
 use denote.Ref.{now}
 use lib.ListN.{List·getD-eq-default}
 use borrow.Author.Needs.{needs}
-use Rattle.reader.proofs.head.byte.Statement.{statement}
-use Rattle.reader.proofs.head.byte.Tie as tie
+use Rattle.header.proofs.byte.Statement.{statement}
+use Rattle.header.proofs.byte.Tie as tie
 
 shared-slice-read-wide : tie.Need-shared-slice-read-wide
 shared-slice-read-wide c = search needs

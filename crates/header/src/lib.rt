@@ -1,9 +1,9 @@
-// The header: refusals 1 to 5.
+// The header of a job file: refusals 1 to 5.
 ghost use mathlib.Core.Path.{_≡_};
 ghost use Prim.Native.Nat.{_<_};
 ghost use Rattle.space.specs.Numbers.{Tells};
 ghost use Rattle.job.specs.Refusals.{First};
-ghost use Rattle.reader.specs.Reading.{at, pairAt, Counted, Placed, headChecks};
+ghost use Rattle.header.specs.Header.{at, pairAt, Counted, Placed, headChecks};
 
 // The number of the first check of the header that the bytes do not pass, 0 for none.
 pub fn number(s: &[u8]) -> u8

@@ -1,8 +1,8 @@
 -- Each test tells its part of refusal 4.
 use borrow.Author.Needs.{needs}
 use Rattle.space.proofs.Telling.{tells-as, tells-and, tells-eq}
-use Rattle.reader.proofs.head.is_placed.Statement.{statement}
-use Rattle.reader.proofs.head.is_placed.Tie as tie
+use Rattle.header.proofs.is_placed.Statement.{statement}
+use Rattle.header.proofs.is_placed.Tie as tie
 
 byte-requires : tie.Need-byte-requires
 byte-requires c κs = search needs

@@ -7,10 +7,10 @@ use denote.Ref.{now}
 use borrow.Author.Needs.{needs}
 use Rattle.space.proofs.Telling.{granted, denied}
 use Rattle.job.specs.Refusals.{First}
-use Rattle.reader.specs.Reading.{Counted, headChecks}
-use Rattle.reader.proofs.Replying.{later}
-use Rattle.reader.proofs.head.number.Statement.{statement}
-use Rattle.reader.proofs.head.number.Tie as tie
+use Rattle.header.specs.Header.{Counted, headChecks}
+use Rattle.header.proofs.HeaderLaws.{later}
+use Rattle.header.proofs.number.Statement.{statement}
+use Rattle.header.proofs.number.Tie as tie
 
 -- past the first check, the first two, three, four, the number is that of the later ones
 past1 : (c : tie.Else1) (r : ℕ) → First (later 1 (headChecks (now (c .before .before .before .args .s)))) r → First (headChecks (now (c .before .before .before .args .s))) r
