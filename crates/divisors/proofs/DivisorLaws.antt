@@ -4,7 +4,7 @@ use mathlib.Core.List.{List, [], _∷_}
 use Prim.Native.Nat.{ℕ, zero, suc, _%_, _<_, _≤_, _∣_}
 use native.Mathlib.Nat.{dvd-refl, dvd-zero, dvd-antisymm, dvd-mod-iff, dvd-trans, mod-lt, le-refl}
 use native.Mathlib.Omega.{arith}
-use Rattle.space.specs.Divisors.{Divides, GcdOf, euclid, gcdOf}
+use Rattle.divisors.specs.Divisors.{Divides, GcdOf, euclid, gcdOf}
 
 pub gcd-unique : {ns : List ℕ} {g h : ℕ} → GcdOf ns g → GcdOf ns h → g ≡ h
 gcd-unique {g = g} {h} p q = dvd-antisymm (q .greatest g (p .divides)) (p .greatest h (q .divides))

@@ -5,10 +5,10 @@ use lib.IntN.{ℤ, natAbs}
 use mir.Syntax.{w64}
 use mir.Val.{SFits}
 use borrow.Author.Needs.{needs}
 use Rattle.space.proofs.Machine.{held, back, in-range}
-use Rattle.space.proofs.DivisorLaws.{gcd-more}
-use Rattle.space.proofs.divisor.gcd_of_entries.Statement.{statement}
-use Rattle.space.proofs.divisor.gcd_of_entries.Tie as tie
+use Rattle.divisors.proofs.DivisorLaws.{gcd-more}
+use Rattle.divisors.proofs.divisor.gcd_of_entries.Statement.{statement}
+use Rattle.divisors.proofs.divisor.gcd_of_entries.Tie as tie
 
 size-requires : tie.Need-size-requires
 size-requires c κs = search needs
