@@ -10,11 +10,11 @@ use lib.Signed.{quotZ}
 use Rattle.space.specs.declared.Vector.{Vector}
 use Rattle.boxes.specs.declared.Bounds.{Bounds}
 use Rattle.space.specs.Vectors.{entries, dotOf, plusOf, minusOf, timesOf}
-use Rattle.space.specs.Divisors.{gcdOf}
+use Rattle.divisors.specs.Divisors.{gcdOf}
 use Rattle.boxes.specs.Boxes.{boxOf, Solid, countOf, placeOf, pointOf, cornerOf, leastOf, greatestOf}
 use Rattle.space.proofs.Ints.{times-none, whole-quot}
 use Rattle.space.proofs.VectorLaws.{minus-plus}
-use Rattle.space.proofs.MultipleLaws.{times-cancel}
+use Rattle.divisors.proofs.MultipleLaws.{times-cancel}
 use Rattle.boxes.proofs.BoxLaws.{place-below}
 use Rattle.boxes.proofs.PairLaws.{startOf, start-in, start-least, in-apart, apart-in}
 use Rattle.boxes.proofs.PairLaws as PairLaws

@@ -4,7 +4,7 @@ use lib.IntN.{ℤ, pos}
 use Rattle.space.specs.declared.Vector.{Vector}
 use Rattle.boxes.specs.declared.Bounds.{Bounds}
 use Rattle.space.specs.Vectors.{entries}
-use Rattle.space.specs.Divisors.{sizesOf}
+use Rattle.divisors.specs.Divisors.{sizesOf}
 use Rattle.boxes.specs.Boxes.{boxOf, countOf}
 use Rattle.job.specs.declared.Job.{Job}
 use Rattle.job.specs.declared.Stream.{Stream}

@@ -142,6 +142,6 @@ fn band_of(j: Job, rows: Reach, columns: Reach, s: u8) -> Band
         high1: columns.high,
         hop0: unit.x1,
         hop1: unit.x2,
-        w: space::divisor::size(unit.x0),
+        w: divisors::divisor::size(unit.x0),
     }
 }

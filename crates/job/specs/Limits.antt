@@ -6,7 +6,7 @@ use lib.IntN.{ℤ, pos}
 use Rattle.space.specs.declared.Vector.{Vector}
 use Rattle.boxes.specs.declared.Bounds.{Bounds}
 use Rattle.space.specs.Vectors.{entries, Sized}
-use Rattle.space.specs.Divisors.{GcdOf, sizesOf}
+use Rattle.divisors.specs.Divisors.{GcdOf, sizesOf}
 use Rattle.space.specs.Order.{Forward}
 use Rattle.boxes.specs.Boxes.{Solid, boxOf, countOf}
 use Rattle.job.specs.declared.Stream.{Stream}

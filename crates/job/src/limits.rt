@@ -161,9 +161,9 @@ fn rows_shaped(j: Job) -> bool
 fn is_sized(v: Vector, most: u64) -> bool
     ensures { λ r. ⌜ Tells (Sized most (entries v)) r ⌝ }
 {
-    (space::divisor::size(v.x0) <= most)
-        & ((space::divisor::size(v.x1) <= most)
-            & ((space::divisor::size(v.x2) <= most) & (space::divisor::size(v.x3) <= most)))
+    (divisors::divisor::size(v.x0) <= most)
+        & ((divisors::divisor::size(v.x1) <= most)
+            & ((divisors::divisor::size(v.x2) <= most) & (divisors::divisor::size(v.x3) <= most)))
 }
 
 // Does the stream keep its line: small entries, pointing forward, gcd 1, a kind, a rule with its sources?
@@ -172,7 +172,7 @@ fn is_sound(s: Stream, m: u8) -> bool
 {
     let d = s.d;
     (is_sized(d, STEP_LIMIT) & space::is_forward(d))
-        & ((space::divisor::gcd_of_entries(d) == 1) & ((s.kind <= 1) & is_ruled(s, m)))
+        & ((divisors::divisor::gcd_of_entries(d) == 1) & ((s.kind <= 1) & is_ruled(s, m)))
 }
 
 // Rule 0 with sources 0, or rule 1 or 2 with sources below m?

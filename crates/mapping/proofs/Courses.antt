@@ -8,12 +8,11 @@ use native.Mathlib.Nat.{eq-zero-of-zero-dvd, one-dvd}
 use lib.ListN.{getD}
 use lib.IntN.{ℤ, pos, natAbs, _*ℤ_, *ℤ-comm}
 use lib.Signed.{_<ℤ_, quotZ}
-use Rattle.space.specs.Vectors.{entries, dotOf, timesOf}
-use Rattle.space.specs.Divisors.{GcdOf, gcdOf}
-use Rattle.space.specs.Multiples.{NonZero}
+use Rattle.space.specs.Vectors.{entries, dotOf, timesOf, NonZero}
+use Rattle.divisors.specs.Divisors.{GcdOf, gcdOf}
 use Rattle.space.proofs.Parts.{int}
 use Rattle.space.proofs.Ints.{trichotomy, dvd-whole, natAbs-zero, times-none}
-use Rattle.space.proofs.DivisorLaws.{gcd-is}
+use Rattle.divisors.proofs.DivisorLaws.{gcd-is}
 use Rattle.job.specs.declared.Job.{Job}
 use Rattle.mapping.specs.Mapping.{along, S, Stationary, g, orOne, hops, hop}
 

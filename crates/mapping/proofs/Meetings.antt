@@ -11,17 +11,17 @@ use lib.Dec.{leb, ltb}
 use lib.IntN.{ℤ, pos, natAbs, _*ℤ_, *ℤ-zero}
 use lib.Signed.{quotZ}
 use Rattle.space.specs.Numbers.{Size, Tells, limit}
-use Rattle.space.specs.Vectors.{dotOf, entries, timesOf, Sized}
-use Rattle.space.specs.Divisors.{GcdOf}
-use Rattle.space.specs.Multiples.{Answers, NonZero}
-use Rattle.space.specs.declared.multiple.Multiple.{Multiple}
-use Rattle.space.specs.declared.multiple.Multiple.the-variants as Multiple
-use Rattle.space.proofs.multiple.Multiple.{the-type}
+use Rattle.space.specs.Vectors.{dotOf, entries, timesOf, Sized, NonZero}
+use Rattle.divisors.specs.Divisors.{GcdOf}
+use Rattle.divisors.specs.Multiples.{Answers}
+use Rattle.divisors.specs.declared.multiple.Multiple.{Multiple}
+use Rattle.divisors.specs.declared.multiple.Multiple.the-variants as Multiple
+use Rattle.divisors.proofs.multiple.Multiple.{the-type}
 use Rattle.space.proofs.Machine.{Half, Is, arg, quot}
 use Rattle.space.proofs.VectorLaws.{four, unfour}
 use Rattle.space.proofs.Telling.{tells-as, tells-and, tells-le, tells-below}
-use Rattle.space.proofs.MultipleLaws.{times-cancel}
-use Rattle.space.proofs.DivisorLaws.{gcd-unique, gcd-zero}
+use Rattle.divisors.proofs.MultipleLaws.{times-cancel}
+use Rattle.divisors.proofs.DivisorLaws.{gcd-unique, gcd-zero}
 use Rattle.job.specs.declared.Job.{Job}
 use Rattle.job.specs.declared.Stream.{Stream}
 use Rattle.job.specs.Limits.{Acceptable}

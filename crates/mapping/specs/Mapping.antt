@@ -7,7 +7,7 @@ use lib.IntN.{ℤ, pos, natAbs}
 use lib.Signed.{quotZ}
 use Rattle.space.specs.Numbers.{up}
 use Rattle.space.specs.Vectors.{entries, dotOf}
-use Rattle.space.specs.Divisors.{gcdOf}
+use Rattle.divisors.specs.Divisors.{gcdOf}
 use Rattle.boxes.specs.Boxes.{Box, boxOf}
 use Rattle.job.specs.declared.Job.{Job}
 use Rattle.job.specs.declared.Stream.{Stream}

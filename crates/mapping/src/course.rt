@@ -46,7 +46,7 @@ pub fn course_of(j: Job, s: u8) -> Course
     let t = job::stream_at(j, s);
     let d = t.d;
     let v = placed(j, d);
-    let g = space::divisor::gcd(space::divisor::size(v.x1), space::divisor::size(v.x2));
+    let g = divisors::divisor::gcd(divisors::divisor::size(v.x1), divisors::divisor::size(v.x2));
     let n = or_one(g) as i64;
     Course {
         unit: Vector {

@@ -1,17 +1,16 @@
 // The walk over the differences of the box: which of them bring two points into one cell, or two tokens together.
 use crate::course::Course;
 use boxes::Bounds;
+use divisors::multiple::Multiple;
 use job::Job;
 use job::Stream;
 use space::Vector;
-use space::multiple::Multiple;
 ghost use mathlib.Core.Path.{_≡_};
 ghost use mathlib.Core.List.{List};
 ghost use Prim.Native.Nat.{_+_, _<_};
 ghost use lib.IntN.{ℤ};
 ghost use Rattle.space.specs.Numbers.{Tells, difference, limit};
-ghost use Rattle.space.specs.Vectors.{entries, Sized};
-ghost use Rattle.space.specs.Multiples.{NonZero};
+ghost use Rattle.space.specs.Vectors.{entries, Sized, NonZero};
 ghost use Rattle.boxes.specs.Boxes.{In, boxOf, placeOf, PointAt};
 ghost use Rattle.job.specs.Record.{zeroVector};
 ghost use Rattle.job.specs.Limits.{Acceptable};
@@ -55,7 +54,8 @@ fn meeting_of(j: Job, s: u8, t: Stream, c: Course, y: Vector) -> Met
     ensures { λ r. ⌜ MetAt j s (entries y) r ⌝ }
 {
     let unit = c.unit;
-    let Multiple::Times(f) = space::multiple::multiple_of(crate::course::placed(j, y), unit) else {
+    let Multiple::Times(f) = divisors::multiple::multiple_of(crate::course::placed(j, y), unit)
+    else {
         return Met::Apart;
     };
     if is_collision(t.kind, t.d, c.g, y, f) {
@@ -71,10 +71,10 @@ fn is_collision(kind: u8, d: Vector, g: u64, y: Vector, f: i64) -> bool
     ensures { λ r. ⌜ Tells (Collide kind (entries d) g (entries y) f) r ⌝ }
 {
     if kind == 0 {
-        let m = space::multiple::multiple_of(y, d);
+        let m = divisors::multiple::multiple_of(y, d);
         return is_none(m);
     }
-    let size = space::divisor::size(f);
+    let size = divisors::divisor::size(f);
     (1 <= size) & (size < g)
 }
 

@@ -11,7 +11,7 @@ use Rattle.job.specs.declared.Stream.{Stream}
 use Rattle.job.specs.Record.{noStream, zeroVector}
 use Rattle.job.specs.Limits.{Unused, Idle}
 use Rattle.layout.specs.Layout.{streamsFrom, matricesFrom, totalOf, headerOf, boxBytes, streamsBytes, matrixBytes, streamBytes, vectorBytes, fileOf, Lays}
-use Rattle.reader.specs.Reading.{at}
+use Rattle.header.specs.Header.{at}
 use Rattle.reader.specs.Pieces.{part, Headed, BoxIn, StreamAt, RowAt}
 use Rattle.reader.proofs.Places.{part-bytes, pair-bytes, joined-parts}
 

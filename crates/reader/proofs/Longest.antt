@@ -12,7 +12,8 @@ use Rattle.job.specs.Refusals.{First}
 use Rattle.job.specs.Limits.{Shaped}
 use Rattle.layout.specs.Layout.{totalOf, fileOf}
 use Rattle.layout.proofs.Injective.{file-length}
-use Rattle.reader.specs.Reading.{at, pairAt, Counted, Placed, fileChecks, Reads}
+use Rattle.header.specs.Header.{at, pairAt, Counted, Placed}
+use Rattle.reader.specs.Reading.{fileChecks, Reads}
 use Rattle.reader.specs.declared.Reply.{Reply}
 use Rattle.reader.specs.declared.Reply.the-variants as R
 

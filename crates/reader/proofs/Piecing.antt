@@ -16,7 +16,7 @@ use Rattle.job.specs.Record.{zeroVector}
 use Rattle.job.specs.Limits.{Unused}
 use Rattle.layout.specs.Layout.{complement, entryBytes, InByte, Held}
 use Rattle.layout.proofs.Entries.{below-256, byte-injective}
-use Rattle.reader.specs.Reading.{at}
+use Rattle.header.specs.Header.{at}
 use Rattle.reader.specs.Pieces.{part, EntryAt, EntriesAt, VectorIn, BoxIn, StreamIn}
 use Rattle.reader.proofs.Places.{bytesAt, part-bytes, joined-parts}
 

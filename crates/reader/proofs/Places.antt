@@ -7,7 +7,7 @@ use native.Mathlib.Omega.{arith}
 use lib.ListN.{length, take, drop}
 use lib.Seq.{drop-cons, drop-drop, take-add}
 use Rattle.layout.specs.Layout.{joined}
-use Rattle.reader.specs.Reading.{at}
+use Rattle.header.specs.Header.{at}
 use Rattle.reader.specs.Pieces.{part}
 
 -- the w bytes from place i on, one by one

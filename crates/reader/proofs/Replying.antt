@@ -2,23 +2,19 @@
 use mathlib.Core.Path.{subst}
 use mathlib.Core.Logic.{_⊎_, inl, inr, ⊎-elim}
 use mathlib.Core.List.{List}
-use Prim.Native.Nat.{ℕ, zero, suc}
+use Prim.Native.Nat.{ℕ}
 use native.Mathlib.Omega.{arith}
 use Rattle.job.specs.declared.Job.{Job}
-use Rattle.job.specs.Refusals.{Checks, done, check, First}
+use Rattle.job.specs.Refusals.{First}
 use Rattle.job.specs.Record.{Firsts, streamsOf}
 use Rattle.job.specs.Limits.{Boxed, Sound, Rowed, limits}
 use Rattle.job.proofs.Refusing.{Passes, first-passes, then-first}
 use Rattle.layout.specs.Layout.{Lays}
 use Rattle.layout.proofs.Injective.{lays-unique}
-use Rattle.reader.specs.Reading.{headChecks, fileChecks}
+use Rattle.header.specs.Header.{headChecks}
+use Rattle.header.proofs.HeaderLaws.{later}
+use Rattle.reader.specs.Reading.{fileChecks}
 use Rattle.reader.specs.Pieces.{Headed}
-
--- the checks after the first i
-abbrev pub later : ℕ → Checks → Checks
-later zero cs = cs
-later (suc i) done = done
-later (suc i) (check number holds rest) = later i rest
 
 -- number 0 of the header is a header that passes
 pub headed : (s : List ℕ) → First (headChecks s) 0 → Headed s

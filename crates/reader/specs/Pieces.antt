@@ -11,7 +11,7 @@ use Rattle.job.specs.declared.Stream.{Stream}
 use Rattle.job.specs.Record.{noStream, zeroVector}
 use Rattle.job.specs.Limits.{Unused}
 use Rattle.layout.specs.Layout.{complement, entryBytes, joined, vectorBytes, streamBytes, streamsFrom, matricesFrom, InByte, Held}
-use Rattle.reader.specs.Reading.{at, pairAt, Counted, Placed}
+use Rattle.header.specs.Header.{at, pairAt, Counted, Placed}
 
 -- the w bytes from a place on
 abbrev pub part : List ℕ → ℕ → ℕ → List ℕ

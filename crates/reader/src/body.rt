@@ -1,5 +1,4 @@
 // What follows the header: the box, the streams and the matrices, each piece from a part of the bytes.
-use crate::head;
 use boxes::Bounds;
 use job::Job;
 use job::Stream;
@@ -16,9 +15,9 @@ pub fn job_of(s: &[u8]) -> Job
     requires { ⌜ Headed (now s) ⌝ }
     ensures { λ r. ⌜ Lays r (now (s .entry)) ⌝ }
 {
-    let n = head::byte(s, 2);
-    let k = head::byte(s, 3);
-    let m = head::byte(s, 4);
+    let n = header::byte(s, 2);
+    let k = header::byte(s, 3);
+    let m = header::byte(s, 4);
     let bounds = box_of(s, n);
     let s0 = stream_or(s, n, m, 0);
     let s1 = stream_or(s, n, m, 1);

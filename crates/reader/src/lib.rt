@@ -1,6 +1,5 @@
 // The reader: job bytes to the job or the number of refusal, 1 to 8.
 mod body;
-mod head;
 
 use job::Job;
 ghost use Rattle.reader.specs.Reading.{Reads};
@@ -15,7 +14,7 @@ pub enum Reply {
 pub fn read(s: &[u8]) -> Reply
     ensures { λ r. ⌜ Reads (now (s .entry)) r ⌝ }
 {
-    let head = head::number(s);
+    let head = header::number(s);
     if head != 0 {
         return Reply::Refused(head);
     }

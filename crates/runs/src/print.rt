@@ -73,7 +73,7 @@ fn coordinate(x: i64) {
     if x < 0 {
         say(b"-");
     }
-    io::print_decimal(STDOUT_FILENO, space::divisor::size(x));
+    io::print_decimal(STDOUT_FILENO, divisors::divisor::size(x));
 }
 
 // The first two coordinates of a point, or the first alone where there is one.

@@ -9,9 +9,8 @@ use lib.ListN.{length}
 use lib.IntN.{ℤ, pos}
 use lib.Signed.{_<ℤ_}
 use Rattle.space.specs.Numbers.{Tells}
-use Rattle.space.specs.Vectors.{minusOf}
+use Rattle.space.specs.Vectors.{minusOf, NonZero}
 use Rattle.space.specs.Order.{Before, Forward}
-use Rattle.space.specs.Multiples.{NonZero}
 use Rattle.space.proofs.Parts.{int, difference}
 use Rattle.space.proofs.Ints.{trichotomy}
 

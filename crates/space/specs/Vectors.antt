@@ -1,4 +1,6 @@
 -- 'Write Hx, Sx for the products.' Vectors of whole numbers, of any length n. In the code a vector has four entries, the unused ones 0, which changes no product, sum or order (proofs/Padding).
+use mathlib.Core.Path.{_≡_}
+use mathlib.Core.Logic.{_⊎_}
 use mathlib.Core.List.{List, [], _∷_}
 use Prim.Native.Nat.{ℕ}
 use lib.IntN.{ℤ, pos, _+ℤ_, _-ℤ_, _*ℤ_}
@@ -39,3 +41,8 @@ Sizes b (x ∷ xs) = Size b x × Sizes b xs
 
 pub record Sized (b : ℕ) (xs : List ℤ) : Type 0 where
   pub each : Sizes b xs
+
+-- some entry is not 0
+abbrev pub NonZero : List ℤ → Type 0
+NonZero [] = ⊥
+NonZero (x ∷ xs) = (x ≡ pos 0 → ⊥) ⊎ NonZero xs

@@ -11,7 +11,7 @@ use Rattle.space.specs.declared.Vector.{Vector}
 use Rattle.space.specs.Vectors.{entries, plusOf, minusOf}
 use Rattle.space.specs.Order.{Before, AtMost}
 use Rattle.space.proofs.VectorLaws.{plus-minus, vector-of}
-use Rattle.space.proofs.MultipleLaws.{times-cancel}
+use Rattle.divisors.proofs.MultipleLaws.{times-cancel}
 use Rattle.space.proofs.OrderLaws.{before-irreflexive, before-trans}
 use Rattle.job.specs.declared.Job.{Job}
 use Rattle.job.specs.Limits.{limits}

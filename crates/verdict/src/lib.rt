@@ -82,7 +82,7 @@ fn all_delays(j: Job) -> u64
     while s < m {
         let c = mapping::course::course_of(j, s);
         let unit = c.unit;
-        sum += space::divisor::size(unit.x0);
+        sum += divisors::divisor::size(unit.x0);
         s += 1;
     }
     sum

@@ -110,11 +110,11 @@ fn is_even(j: Job, s: u8) -> bool
     let t = job::stream_at(j, s);
     let d = t.d;
     let v = mapping::course::placed(j, d);
-    let g = space::divisor::gcd(space::divisor::size(v.x1), space::divisor::size(v.x2));
+    let g = divisors::divisor::gcd(divisors::divisor::size(v.x1), divisors::divisor::size(v.x2));
     if g == 0 {
         return true;
     }
-    space::divisor::size(v.x0) % g == 0
+    divisors::divisor::size(v.x0) % g == 0
 }
 
 // The first pair of stream s whose tokens meet.

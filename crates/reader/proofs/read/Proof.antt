@@ -6,9 +6,11 @@ use borrow.Author.Needs.{needs}
 use Rattle.job.specs.Refusals.{First}
 use Rattle.job.specs.Limits.{limits}
 use Rattle.job.proofs.Refusing.{stop-first, accepted}
-use Rattle.reader.specs.Reading.{headChecks, fileChecks}
+use Rattle.header.specs.Header.{headChecks}
+use Rattle.header.proofs.HeaderLaws.{later}
+use Rattle.reader.specs.Reading.{fileChecks}
 use Rattle.reader.specs.Pieces.{Headed}
-use Rattle.reader.proofs.Replying.{later, headed, record-first}
+use Rattle.reader.proofs.Replying.{headed, record-first}
 use Rattle.reader.proofs.read.Statement.{statement}
 use Rattle.reader.proofs.read.Tie as tie
 

@@ -5,8 +5,8 @@ use Prim.Native.Nat.{ℕ}
 use lib.Dec.{eqb}
 use borrow.Author.Needs.{needs}
 use Rattle.space.specs.Numbers.{Tells}
-use Rattle.space.specs.Divisors.{GcdOf}
-use Rattle.space.proofs.DivisorLaws.{gcd-unique}
+use Rattle.divisors.specs.Divisors.{GcdOf}
+use Rattle.divisors.proofs.DivisorLaws.{gcd-unique}
 use Rattle.space.proofs.Telling.{tells-as, tells-and, tells-eq, tells-le}
 use Rattle.job.proofs.limits.is_sound.Statement.{statement}
 use Rattle.job.proofs.limits.is_sound.Tie as tie

@@ -5,9 +5,9 @@ use native.Mathlib.Omega.{arith}
 use lib.IntN.{ℤ}
 use borrow.Author.Needs.{needs}
 use Rattle.space.specs.Numbers.{limit}
-use Rattle.space.specs.Vectors.{entries, timesOf, Sized}
-use Rattle.space.specs.Multiples.{Answers, NonZero}
-use Rattle.space.specs.declared.multiple.Multiple.{Multiple}
+use Rattle.space.specs.Vectors.{entries, timesOf, Sized, NonZero}
+use Rattle.divisors.specs.Multiples.{Answers}
+use Rattle.divisors.specs.declared.multiple.Multiple.{Multiple}
 use Rattle.space.proofs.Machine.{held, back, in-range}
 use Rattle.space.proofs.VectorLaws.{sized-up}
 use Rattle.space.proofs.OrderLaws.{forward-nonzero}

@@ -12,7 +12,7 @@ use Rattle.space.specs.Numbers.{Tells, difference}
 use Rattle.space.specs.Vectors.{entries, Sized}
 use Rattle.space.proofs.Machine.{held, in-range, back, never}
 use Rattle.space.proofs.VectorLaws.{unfour}
-use Rattle.space.proofs.DivisorLaws.{gcd-unique}
+use Rattle.divisors.proofs.DivisorLaws.{gcd-unique}
 use Rattle.space.proofs.Telling.{tells-as, tells-eq}
 use Rattle.job.specs.declared.Job.{Job}
 use Rattle.job.specs.declared.Stream.{Stream}
