@@ -1,18 +1,24 @@
--- Laws of the answers: the test of both lengths, what the checks leave where none fails, and a refusal taken on.
+-- Laws of the answers: the test of both lengths, what the checks leave where none fails, and what refuses.
 use mathlib.Core.Path.{_≡_, refl, sym}
 use mathlib.Core.Logic.{inl, inr}
+use mathlib.Core.List.{[], _∷_}
 use mathlib.Core.Bool.{Bool, true, false, not, _||_}
 use Prim.Native.Nat.{ℕ, _*_, _≤_}
 use native.Mathlib.Omega.{arith}
 use lib.Dec.{eqb}
+use types.Run.{OneOf, miss}
+use denote.Enum.Declared.{tagOf}
 use borrow.Author.Tests.{eqb-true, eqb-false}
 use Rattle.space.proofs.Machine.{never}
 use Rattle.job.specs.declared.Job.{Job}
 use Rattle.job.specs.Refusals.{Checks, First}
+use Rattle.verdict.specs.Replies.{Says}
 use Rattle.verdict.specs.declared.Size.{Size}
+use Rattle.verdict.specs.declared.Verdict.the-variants.{Accepted}
 use Rattle.tables.specs.Tables.{points}
-use Rattle.answers.specs.Answers.{runChecks, Replies}
+use Rattle.answers.specs.Answers.{runChecks, Replies, Lacks}
 use Rattle.answers.specs.declared.Reply.{Reply}
+use Rattle.answers.proofs.Reply.{the-type as reply-type}
 use Rattle.answers.specs.declared.Reply.the-variants.{Ticks, Refused, Tables, Large, Few, Late}
 
 -- ---- the tables
@@ -40,12 +46,12 @@ passed j a b n z (inl (h, inr g)) = absurd (omega (arith, g .1))
 passed j a b n z (inl (h, inl (g, inr f))) = absurd (omega (arith, f .1))
 passed j a b n z (inl (h, inl (g, inl f))) = (h .0, h .1, g, f .0)
 
--- ---- a refusal
--- what refuses by some checks refuses by those that go on from them, whatever is done where none fails
-pub refused : (j : Job) (checks checks′ : Size → Checks) (Done Same : Type 0) → ((z : Size) (n : ℕ) → (n ≡ 0 → ⊥) → First (checks z) n → First (checks′ z) n) → (r : Reply) → Replies j checks ⊥ (Unit {0}) r → Same → Replies j checks′ Done Same r
-refused j checks checks′ Done Same on (Ticks n) (z, s, e, d) same = absurd d
-refused j checks checks′ Done Same on (Refused v) (s, ne, d) same = (s, ne, same)
-refused j checks checks′ Done Same on Tables (z, s, d) same = (z, record { accepted = s .accepted; first = on z 13 (λ h. omega arith) (s .first) }, same)
-refused j checks checks′ Done Same on (Large r) (z, s, e, d) same = (z, record { accepted = s .accepted; first = on z 14 (λ h. omega arith) (s .first) }, e, same)
-refused j checks checks′ Done Same on (Few r) (z, s, e, d) same = (z, record { accepted = s .accepted; first = on z 15 (λ h. omega arith) (s .first) }, e, same)
-refused j checks checks′ Done Same on Late (z, s, d) same = (z, record { accepted = s .accepted; first = on z 16 (λ h. omega arith) (s .first) }, same)
+-- ---- a refusal of 13 to 15
+-- what is lacking is the reply
+pub lacks-refuses : (j : Job) (z : Size) (checks checks′ : Size → Checks) (Done Same : Type 0) → Says j (Accepted z) → ((n : ℕ) → (n ≡ 0 → ⊥) → First (checks z) n → First (checks′ z) n) → (r : Reply) → Lacks checks z r → OneOf (1 ∷ 2 ∷ 3 ∷ 4 ∷ 5 ∷ []) (tagOf reply-type r) → Same → Replies j checks′ Done Same r
+lacks-refuses j z checks checks′ Done Same s pass (Ticks n) l o e = absurd (miss (1 ∷ 2 ∷ 3 ∷ 4 ∷ 5 ∷ []) 0 tt o)
+lacks-refuses j z checks checks′ Done Same s pass (Refused v) l o e = absurd l
+lacks-refuses j z checks checks′ Done Same s pass Tables l o e = (z, record { accepted = s; first = pass 13 (λ h. omega arith) l }, e)
+lacks-refuses j z checks checks′ Done Same s pass (Large r) l o e = (z, record { accepted = s; first = pass 14 (λ h. omega arith) (l .0) }, l .1, e)
+lacks-refuses j z checks checks′ Done Same s pass (Few r) l o e = (z, record { accepted = s; first = pass 15 (λ h. omega arith) (l .0) }, l .1, e)
+lacks-refuses j z checks checks′ Done Same s pass Late l o e = absurd l

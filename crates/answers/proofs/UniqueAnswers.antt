@@ -1,4 +1,4 @@
--- Two answers that meet one statement are equal: replies by the same checks, what the checks leave, and an answer in numbers.
+-- Two answers that meet one statement are equal: replies by the same checks, what an accepted array lacks, and an answer in numbers.
 use mathlib.Core.Path.{_≡_, refl, sym, ap, ap₂, subst, _∙_}
 use mathlib.Core.Logic.{_⊎_, inl, inr}
 use mathlib.Core.Bool.{cond}
@@ -15,13 +15,10 @@ use Rattle.verdict.specs.declared.Verdict.{Verdict}
 use Rattle.verdict.specs.declared.Verdict.the-variants.{Accepted}
 use Rattle.verdict.proofs.Unique.{says-unique}
 use Rattle.verdict.proofs.Accepted.{sizes-same, no-refusal}
-use Rattle.answers.specs.Answers.{Answers, numberOf, Stands, Replies, Leaves}
+use Rattle.answers.specs.Answers.{Answers, numberOf, Stands, Replies, Lacks}
 use Rattle.answers.specs.declared.Reply.{Reply}
 use Rattle.answers.specs.declared.Reply.the-variants.{Ticks, Refused, Tables, Large, Few, Late}
 use Rattle.answers.specs.declared.Answer.{Answer}
-use Rattle.answers.specs.declared.Checked.{Checked}
-use Rattle.answers.specs.declared.Checked.the-variants as Checked
-use Rattle.answers.proofs.AnswerLaws.{refused}
 
 -- ---- replies
 -- the reply with a number, of an array with the sizes z
@@ -83,18 +80,20 @@ module _ (j : Job) (checks : Size → Checks) {Done Done′ Same Same′ Goal : 
 pub answers-unique : (r : Reply) (a b : Answer) → Answers r a → Answers r b → a ≡ b
 answers-unique r a b p q = ap₂ (λ (n c : ℕ). record { number = n; count = c }) (p .number ∙ sym (q .number)) (p .count ∙ sym (q .count))
 
--- ---- what the checks leave
-module _ (j : Job) (checks : Size → Checks) where
-  -- checks that are passed refuse nothing
-  not-both : (z : Size) (r : Reply) → Says j (Accepted z) × First (checks z) 0 → Replies j checks ⊥ (Unit {0}) r → ⊥
-  not-both z r p q = by (replies-unique j checks {Done = Unit {0}} {Done′ = Unit {0}} {Same = Unit {0}} {Same′ = Unit {0}} {Goal = Unit {0}} (λ z s f a b. tt) (λ a b. tt) (Ticks (z .ticks)) r (z, record { accepted = p .0; first = p .1 }, refl, tt) (refused j checks checks (Unit {0}) (Unit {0}) (λ z n h f. f) r q tt) .0)
-    where
-      by : Ticks (z .ticks) ≡ r → ⊥
-      by e = subst (Replies j checks ⊥ (Unit {0})) (sym e) q .3
+-- ---- what an accepted array lacks
+module _ (checks : Size → Checks) (z : Size) where
+  -- its number is that of the first check that fails, and it is the reply with that number
+  lacked : (r : Reply) → Lacks checks z r → First (checks z) (numberOf r) × (r ≡ replyOf (numberOf r) z)
+  lacked (Ticks n) l = (l .0, ap Ticks (l .1))
+  lacked (Refused v) l = absurd l
+  lacked Tables l = (l, refl)
+  lacked (Large r) l = (l .0, ap Large (l .1))
+  lacked (Few r) l = (l .0, ap Few (l .1))
+  lacked Late l = absurd l
 
-  -- they leave one thing
-  pub leaves-unique : (r r′ : Checked) → Leaves j checks r → Leaves j checks r′ → r ≡ r′
-  leaves-unique (Checked.Passed z) (Checked.Passed z′) a b = ap Checked.Passed (sizes-same j z z′ (a .0) (b .0))
-  leaves-unique (Checked.Passed z) (Checked.Refused r) a b = absurd (not-both z r a b)
-  leaves-unique (Checked.Refused r) (Checked.Passed z) a b = absurd (not-both z r b a)
-  leaves-unique (Checked.Refused r) (Checked.Refused r′) a b = ap Checked.Refused (replies-unique j checks {Goal = Unit {0}} (λ z s f a b. tt) (λ a b. tt) r r′ a b .0)
+  -- so it is one reply
+  pub lacks-unique : (r r′ : Reply) → Lacks checks z r → Lacks checks z r′ → r ≡ r′
+  lacks-unique r r′ a b =
+      let p = lacked r a in
+      let q = lacked r′ b in
+      p .1 ∙ ap (λ (n : ℕ). replyOf n z) (first-unique (checks z) (numberOf r) (numberOf r′) (p .0) (q .0)) ∙ sym (q .1)

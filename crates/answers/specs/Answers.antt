@@ -11,8 +11,6 @@ use Rattle.tables.specs.Tables.{Long}
 use Rattle.answers.specs.declared.Reply.{Reply}
 use Rattle.answers.specs.declared.Reply.the-variants.{Ticks, Refused, Tables, Large, Few, Late}
 use Rattle.answers.specs.declared.Answer.{Answer}
-use Rattle.answers.specs.declared.Checked.{Checked}
-use Rattle.answers.specs.declared.Checked.the-variants as Checked
 
 -- 13, 14 'R over 8,192', 15 'fewer than R places lent', of tables and places so long, for an accepted array
 abbrev pub runChecks : Job → ℕ → ℕ → ℕ → Size → Checks
@@ -59,7 +57,11 @@ Replies j checks Done Same (Large r) = (z : Size) × Stands j checks z (Large r)
 Replies j checks Done Same (Few r) = (z : Size) × Stands j checks z (Few r) × (r ≡ z .room) × Same
 Replies j checks Done Same Late = (z : Size) × Stands j checks z Late × Same
 
--- what the checks leave: the sizes of an accepted array that passes them, or the reply that refuses it
-abbrev pub Leaves : Job → (Size → Checks) → Checked → Type 0
-Leaves j checks (Checked.Passed z) = Says j (Accepted z) × First (checks z) 0
-Leaves j checks (Checked.Refused r) = Replies j checks ⊥ (Unit {0}) r
+-- the first of the checks that fails for the sizes z, or the tick count
+abbrev pub Lacks : (Size → Checks) → Size → Reply → Type 0
+Lacks checks z (Ticks n) = First (checks z) 0 × (n ≡ z .ticks)
+Lacks checks z (Refused v) = ⊥
+Lacks checks z Tables = First (checks z) 13
+Lacks checks z (Large r) = First (checks z) 14 × (r ≡ z .room)
+Lacks checks z (Few r) = First (checks z) 15 × (r ≡ z .room)
+Lacks checks z Late = ⊥

@@ -2,7 +2,8 @@
 use job::Job;
 use verdict::Size;
 use verdict::Verdict;
-ghost use Rattle.answers.specs.Answers.{Answers, Leaves, runChecks};
+ghost use Rattle.job.specs.Limits.{Acceptable};
+ghost use Rattle.answers.specs.Answers.{Answers, Lacks, runChecks};
 
 // What a run or a tick answers: the tick count; the verdict's refusal; 13; 14 and 15 with R; 16.
 pub enum Reply {
@@ -18,12 +19,6 @@ pub enum Reply {
 pub struct Answer {
     pub number: u8,
     pub count: u64,
-}
-
-// What the checks before a run leave: the sizes of an array that may run, or the reply that refuses it.
-pub enum Checked {
-    Passed(Size),
-    Refused(Reply),
 }
 
 // What a reply answers.
@@ -61,23 +56,20 @@ pub fn answer_of(r: Reply) -> Answer
     }
 }
 
-// The checks of a run, with tables and places so long: the verdict's, then 13 to 15.
-pub fn check(j: Job, input: usize, values: usize, places: usize) -> Checked
-    ensures { λ r. ⌜ Leaves j (runChecks j input values places) r ⌝ }
+// The first check of 13 to 15 that tables and places so long do not pass, or the tick count.
+pub fn lacking(j: Job, size: Size, input: usize, values: usize, places: usize) -> Reply
+    requires { ⌜ Acceptable j ⌝ }
+    ensures { λ r. ⌜ Lacks (runChecks j input values places) size r ⌝ }
 {
-    let v = verdict::verdict_of(j);
-    let Verdict::Accepted(size) = v else {
-        return Checked::Refused(Reply::Refused(v));
-    };
     let table = tables::place_in_table(j.m, boxes::count(j.bounds), 0);
     if (input != table) | (values != table) {
-        return Checked::Refused(Reply::Tables);
+        return Reply::Tables;
     }
     if 8192 < size.room {
-        return Checked::Refused(Reply::Large(size.room));
+        return Reply::Large(size.room);
     }
     if (places as u64) < size.room {
-        return Checked::Refused(Reply::Few(size.room));
+        return Reply::Few(size.room);
     }
-    Checked::Passed(size)
+    Reply::Ticks(size.ticks)
 }

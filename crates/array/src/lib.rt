@@ -1,6 +1,5 @@
 // The array: a run of all ticks, and a single tick.
 
-use answers::Checked;
 use answers::Reply;
 use frame::Frame;
 use job::Job;
@@ -18,55 +17,58 @@ ghost use Rattle.frame.specs.Framing.{Timed};
 pub fn run_of(j: Job, input: &[u32], values: &mut [u32], places: &mut [u32]) -> Reply
     ensures { λ r. ⌜ Runs j (now (input .entry)) (now (values .entry)) (now (places .entry)) (now (values .exit)) (now (places .exit)) r ⌝ }
 {
-    let checked = answers::check(j, input.len(), values.len(), places.len());
-    match checked {
-        Checked::Refused(reply) => reply,
-        Checked::Passed(size) => {
-            let ticks = size.ticks;
-            let f = frame::frame_of(j);
-            let mut timetable = [0u64; 1024];
-            frame::fill_timetable(j, f, &mut timetable[..]);
-            clear(&mut places[..], size.room as usize);
-            all_ticks(
-                j,
-                f,
-                &timetable[..],
-                ticks,
-                input,
-                &mut values[..],
-                &mut places[..],
-            );
-            Reply::Ticks(ticks)
-        }
-    }
+    let v = verdict::verdict_of(j);
+    let Verdict::Accepted(size) = v else {
+        return Reply::Refused(v);
+    };
+    let reply = answers::lacking(j, size, input.len(), values.len(), places.len());
+    let Reply::Ticks(ticks) = reply else {
+        return reply;
+    };
+    let f = frame::frame_of(j);
+    let mut timetable = [0u64; 1024];
+    frame::fill_timetable(j, f, &mut timetable[..]);
+    clear(&mut places[..], size.room as usize);
+    all_ticks(
+        j,
+        f,
+        &timetable[..],
+        ticks,
+        input,
+        &mut values[..],
+        &mut places[..],
+    );
+    Reply::Ticks(ticks)
 }
 
 // One tick of a record, from the lent places as they are.
 pub fn tick_of(j: Job, t: u64, input: &[u32], values: &mut [u32], places: &mut [u32]) -> Reply
     ensures { λ r. ⌜ Steps t j (now (input .entry)) (now (values .entry)) (now (places .entry)) (now (values .exit)) (now (places .exit)) r ⌝ }
 {
-    let checked = answers::check(j, input.len(), values.len(), places.len());
-    match checked {
-        Checked::Refused(reply) => reply,
-        Checked::Passed(size) => {
-            if size.ticks <= t {
-                return Reply::Late;
-            }
-            let f = frame::frame_of(j);
-            let mut timetable = [0u64; 1024];
-            frame::fill_timetable(j, f, &mut timetable[..]);
-            tick::one_tick(
-                j,
-                f,
-                &timetable[..],
-                t,
-                input,
-                &mut values[..],
-                &mut places[..],
-            );
-            Reply::Ticks(size.ticks)
-        }
+    let v = verdict::verdict_of(j);
+    let Verdict::Accepted(size) = v else {
+        return Reply::Refused(v);
+    };
+    let reply = answers::lacking(j, size, input.len(), values.len(), places.len());
+    let Reply::Ticks(ticks) = reply else {
+        return reply;
+    };
+    if ticks <= t {
+        return Reply::Late;
     }
+    let f = frame::frame_of(j);
+    let mut timetable = [0u64; 1024];
+    frame::fill_timetable(j, f, &mut timetable[..]);
+    tick::one_tick(
+        j,
+        f,
+        &timetable[..],
+        t,
+        input,
+        &mut values[..],
+        &mut places[..],
+    );
+    Reply::Ticks(ticks)
 }
 
 // The run of the job that the bytes are.

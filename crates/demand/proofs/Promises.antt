@@ -1,4 +1,4 @@
--- DEMAND 3 for the code: what the promises of `array::run_of` and `run_of_bytes` (`Runs`, `RepliesOf`) and of `loops::looped::loop_of` and `loop_of_bytes` (`Loops`, `LoopsOf`) say together.
+-- DEMAND 3 for the code: what the promises of `array::run_of` and `run_of_bytes` (`Runs`, `RepliesOf`) and of `loops::loop_of` and `loop_of_bytes` (`Loops`, `LoopsOf`) say together.
 use mathlib.Core.Path.{_≡_, refl, ap, subst, _∙_}
 use mathlib.Core.Logic.{inl, inr}
 use mathlib.Core.List.{List}
