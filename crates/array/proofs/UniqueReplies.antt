@@ -17,7 +17,7 @@ use Rattle.tick.specs.Ticks.{Ticked}
 use Rattle.answers.specs.Answers.{runChecks, tickChecks}
 use Rattle.answers.proofs.AnswerLaws.{passed}
 use Rattle.answers.proofs.UniqueAnswers.{replies-unique}
-use Rattle.array.specs.Runs.{Ran, cleared, Runs, Steps, RepliesOf}
+use Rattle.array.specs.Runs.{Ran, cleared, Runs, SingleTick, RepliesOf}
 use Rattle.array.proofs.ReplyLaws.{accepted-runs}
 use Rattle.array.proofs.UniqueTicks.{ticked-unique, ran-unique}
 
@@ -38,8 +38,8 @@ module _ (j : Job) (input values places v p v′ p′ : List ℕ) (r r′ : Repl
           (e .1, e .0)
 
   -- of a single tick too
-  pub steps-unique : (t : ℕ) → Steps t j input values places v p r → Steps t j input values places v′ p′ r′ → (r ≡ r′) × (v ≡ v′) × (p ≡ p′)
-  steps-unique t a b = let e = replies-unique j (tickChecks t j (length input) (length values) (length places)) finished neither r r′ a b in (e .0, e .1 .0, e .1 .1)
+  pub single-tick-unique : (t : ℕ) → SingleTick t j input values places v p r → SingleTick t j input values places v′ p′ r′ → (r ≡ r′) × (v ≡ v′) × (p ≡ p′)
+  single-tick-unique t a b = let e = replies-unique j (tickChecks t j (length input) (length values) (length places)) finished neither r r′ a b in (e .0, e .1 .0, e .1 .1)
     where
       finished : (z : Size) → Says j (Accepted z) → First (tickChecks t j (length input) (length values) (length places) z) 0 → Ticked j input t places values p v → Ticked j input t places values p′ v′ → (v ≡ v′) × (p ≡ p′)
       finished z s f a b =
@@ -58,5 +58,5 @@ module _ (s input values places v p v′ p′ : List ℕ) (r r′ : Reply) where
   runs-of-unique a b = of-bytes-unique s unread (λ j. runs-unique j input values places v p v′ p′ r r′) a b
 
   -- of a single tick on bytes
-  pub steps-of-unique : (t : ℕ) → RepliesOf s (λ (j : Job). Steps t j input values places v p r) ((v ≡ values) × (p ≡ places)) r → RepliesOf s (λ (j : Job). Steps t j input values places v′ p′ r′) ((v′ ≡ values) × (p′ ≡ places)) r′ → (r ≡ r′) × (v ≡ v′) × (p ≡ p′)
-  steps-of-unique t a b = of-bytes-unique s unread (λ j. steps-unique j input values places v p v′ p′ r r′ t) a b
+  pub single-tick-of-unique : (t : ℕ) → RepliesOf s (λ (j : Job). SingleTick t j input values places v p r) ((v ≡ values) × (p ≡ places)) r → RepliesOf s (λ (j : Job). SingleTick t j input values places v′ p′ r′) ((v′ ≡ values) × (p′ ≡ places)) r′ → (r ≡ r′) × (v ≡ v′) × (p ≡ p′)
+  single-tick-of-unique t a b = of-bytes-unique s unread (λ j. single-tick-unique j input values places v p v′ p′ r r′ t) a b

@@ -27,8 +27,8 @@ Runs j input values places values′ places′ r =
     Replies j (runChecks j (length input) (length values) (length places)) (Ran j input (cleared (room j) places) values (ticks j) places′ values′) ((values′ ≡ values) × (places′ ≡ places)) r
 
 -- 'A single tick is public, answers the tick count too and starts from the lent places as they are'
-abbrev pub Steps : ℕ → Job → List ℕ → List ℕ → List ℕ → List ℕ → List ℕ → Reply → Type 0
-Steps t j input values places values′ places′ r =
+abbrev pub SingleTick : ℕ → Job → List ℕ → List ℕ → List ℕ → List ℕ → List ℕ → Reply → Type 0
+SingleTick t j input values places values′ places′ r =
     Replies j (tickChecks t j (length input) (length values) (length places)) (Ticked j input t places values places′ values′) ((values′ ≡ values) × (places′ ≡ places)) r
 
 -- on job bytes: the reader's refusal with nothing altered, or what is said of the job that they are

@@ -9,7 +9,7 @@ ghost use Prim.Native.Nat.{_≤_};
 ghost use lib.ListN.{length};
 ghost use Rattle.job.specs.declared.Job.{Job};
 ghost use Rattle.tables.specs.Tables.{points as pointsOf};
-ghost use Rattle.array.specs.Runs.{Ran, cleared, Runs, Steps, RepliesOf};
+ghost use Rattle.array.specs.Runs.{Ran, cleared, Runs, SingleTick, RepliesOf};
 ghost use Rattle.tick.specs.Steps.{Tabled, Roomy};
 ghost use Rattle.frame.specs.Framing.{Timed};
 
@@ -43,7 +43,7 @@ pub fn run_of(j: Job, input: &[u32], values: &mut [u32], places: &mut [u32]) -> 
 
 // One tick of a record, from the lent places as they are.
 pub fn tick_of(j: Job, t: u64, input: &[u32], values: &mut [u32], places: &mut [u32]) -> Reply
-    ensures { λ r. ⌜ Steps t j (now (input .entry)) (now (values .entry)) (now (places .entry)) (now (values .exit)) (now (places .exit)) r ⌝ }
+    ensures { λ r. ⌜ SingleTick t j (now (input .entry)) (now (values .entry)) (now (places .entry)) (now (values .exit)) (now (places .exit)) r ⌝ }
 {
     let v = verdict::verdict_of(j);
     let Verdict::Accepted(size) = v else {
@@ -90,7 +90,7 @@ pub fn tick_of_bytes(
     values: &mut [u32],
     places: &mut [u32],
 ) -> Reply
-    ensures { λ r. ⌜ RepliesOf (now (s .entry)) (λ (j : Job). Steps t j (now (input .entry)) (now (values .entry)) (now (places .entry)) (now (values .exit)) (now (places .exit)) r) ((now (values .exit) ≡ now (values .entry)) × (now (places .exit) ≡ now (places .entry))) r ⌝ }
+    ensures { λ r. ⌜ RepliesOf (now (s .entry)) (λ (j : Job). SingleTick t j (now (input .entry)) (now (values .entry)) (now (places .entry)) (now (values .exit)) (now (places .exit)) r) ((now (values .exit) ≡ now (values .entry)) × (now (places .exit) ≡ now (places .entry))) r ⌝ }
 {
     let read = reader::read(s);
     match read {

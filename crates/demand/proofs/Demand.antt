@@ -22,7 +22,7 @@ use Rattle.demand.proofs.Rules.{rules-kept}
 use Rattle.demand.proofs.Scans.{point-only}
 use Rattle.demand.specs.Instances.{machine, nest}
 use Rattle.demand.proofs.Instance.{job-mapped}
-use Rattle.demand.proofs.Runs.{incoming-is, Steps, steps-of, run-of, taken-is, loop-solves, ran-through}
+use Rattle.demand.proofs.Runs.{incoming-is, Chain, chain-of, run-of, taken-is, loop-solves, ran-through}
 use Rattle.tables.proofs.TableLaws.{tables-same}
 use Rattle.array.proofs.RunLaws.{ran-size}
 
@@ -36,8 +36,8 @@ module _ (j : Job) (z : Size) (says : Says j (Accepted z)) where
   demand-3 input places values places′ values′ looped size ran loop =
       tables-same j (rules .limits) values′ looped (ran-size ran ∙ size) (loop .size) entry
     where
-      steps : Steps j input (ticks j) places′ values′
-      steps = steps-of j input places values ran
+      steps : Chain j input (ticks j) places′ values′
+      steps = chain-of j input places values ran
 
       entry : (s k : ℕ) → s < j .m → k < points j → entryFor j values′ s k ≡ entryFor j looped s k
       entry s k ls lk =
@@ -49,8 +49,8 @@ module _ (j : Job) (z : Size) (says : Says j (Accepted z)) where
   demand-3-incoming input places values looped loop s k ls lk places′ values′ ran =
       incoming-is j input (tickOf j k) places′ s (cellOf j k) k ∙ rw (← steps .last-room) there ∙ sym (taken-is j input looped s k)
     where
-      steps : Steps j input (tickOf j k) places′ values′
-      steps = steps-of j input places values ran
+      steps : Chain j input (tickOf j k) places′ values′
+      steps = chain-of j input places values ran
 
       there : incoming (machine j input) (tickOf j k) (held j (steps .rooms (tickOf j k))) s (cellOf j k) k ≡ taken (machine j input) (nest j input) (entryFor j looped) s k
       there =

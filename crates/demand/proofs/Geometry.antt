@@ -25,7 +25,7 @@ use Rattle.tables.specs.Tables.{points, previous}
 use Rattle.mapping.specs.Frames.{rectangle, clock, tickOf, cellOf, w}
 use Rattle.frame.proofs.FrameLaws.{between, in-rectangle}
 use Rattle.demand.proofs.Lines.{line-start, line-back, line-behind, minus-back}
-use Rattle.demand.specs.Rules.{Apart, Obeys}
+use Rattle.demand.specs.Rules.{HopsApart, Obeys}
 use Rattle.demand.proofs.Rules.{delay-is, time-whole, delay-low}
 
 -- the point at place k
@@ -157,7 +157,7 @@ module _ (j : Job) (rules : Obeys j) where
                 ∙ natAbs-* x (H j (along j s)) ∙ ap (λ (h : ℤ). natAbs x * natAbs h) (time-whole j rules s ls)
 
         -- so points f hops apart, in either order, break the link rule: on a through stream since no whole multiple of d lies so, on a local one since 1 ≤ f ≤ g - 1
-        none-apart : (p q : List ℤ) (z : ℤ) → natAbs z ≡ f → Apart j s p q z → ⊥
+        none-apart : (p q : List ℤ) (z : ℤ) → natAbs z ≡ f → HopsApart j s p q z → ⊥
         none-apart p q z size a = by (stream j s .kind) refl (stream-sound j (rules .limits) s ls .kind)
           where
             by : (kind : ℕ) → stream j s .kind ≡ kind → kind ≤ 1 → ⊥
@@ -185,7 +185,7 @@ module _ (j : Job) (rules : Obeys j) where
             lengths : length (point j p) ≡ length (point j q)
             lengths = point-length p previous-below ∙ sym (point-length q lq)
 
-            p-first : Before (point j p) (point j q) → Apart j s (point j p) (point j q) (pos f)
+            p-first : Before (point j p) (point j q) → HopsApart j s (point j p) (point j q) (pos f)
             p-first b =
                 record {
                   pair = record { first = point-inside p previous-below; second = point-inside q lq; order = b };
@@ -196,7 +196,7 @@ module _ (j : Job) (rules : Obeys j) where
                 gone : (h v : ℤ) → h +ℤ v -ℤ h ≡ v
                 gone h v = omega (int, sum h v, difference (h +ℤ v) h)
 
-            q-first : Before (point j q) (point j p) → Apart j s (point j q) (point j p) (negℤ (pos f))
+            q-first : Before (point j q) (point j p) → HopsApart j s (point j q) (point j p) (negℤ (pos f))
             q-first b =
                 record {
                   pair = record { first = point-inside q lq; second = point-inside p previous-below; order = b };

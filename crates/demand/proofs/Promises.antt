@@ -1,18 +1,19 @@
 -- DEMAND 3 for the code: what the promises of `array::run_of` and `run_of_bytes` (`Runs`, `RepliesOf`) and of `loops::loop_of` and `loop_of_bytes` (`Loops`, `LoopsOf`) say together.
-use mathlib.Core.Path.{_≡_, refl, ap, subst, _∙_}
+use mathlib.Core.Path.{_≡_, ap, subst, _∙_}
 use mathlib.Core.Logic.{inl, inr}
 use mathlib.Core.List.{List}
 use Prim.Native.Nat.{ℕ, _*_}
 use native.Mathlib.Omega.{arith}
 use lib.ListN.{length}
 use Rattle.job.specs.declared.Job.{Job}
-use Rattle.job.specs.Refusals.{First, check, done}
+use Rattle.job.specs.Refusals.{First}
 use Rattle.job.specs.Limits.{limits, Acceptable}
-use Rattle.job.proofs.Refusing.{Passes, first-unique, first-passes, then-first}
+use Rattle.job.proofs.Refusing.{Passes, first-unique, first-passes}
 use Rattle.reader.specs.Reading.{Reads}
 use Rattle.reader.specs.declared.Reply.the-variants as Read
 use Rattle.reader.proofs.Theorems.{of-bytes-job}
-use Rattle.tables.specs.Tables.{points, Long}
+use Rattle.tables.specs.Tables.{points}
+use Rattle.loops.proofs.LoopLaws.{tables-taken}
 use Rattle.loops.specs.Loops.{loopChecks, Loops}
 use Rattle.loops.specs.LoopBytes.{LoopsOf}
 use Rattle.loops.specs.declared.Reply.{Reply as Answer}
@@ -44,8 +45,7 @@ module _ (j : Job) (input values places values′ places′ : List ℕ) (n : ℕ
   -- so the loop, with a value table so long, refuses nothing
   loop-passes : (before : List ℕ) → length before ≡ j .m * points j → First (loopChecks j input before) 0
   loop-passes before size =
-      then-first (limits j) (check 13 (Long j (length input) (length before)) done) 0
-      (within .shaped, (within .boxed, (within .sound, (within .rowed, tt)))) (inl ((input-size, size), refl))
+      tables-taken j input before within input-size size
 
   -- A run that answers a tick count leaves in the value table exactly what the loop on the same job and the same input leaves there, whatever stood in the two tables before;
   -- and the loop then answers the point count.

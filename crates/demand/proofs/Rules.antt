@@ -18,11 +18,11 @@ use Rattle.verdict.specs.Replies.{Says}
 use Rattle.verdict.specs.declared.Size.{Size}
 use Rattle.verdict.specs.declared.Verdict.the-variants.{Accepted}
 use Rattle.mapping.specs.Frames.{w}
-use Rattle.demand.specs.Rules.{Moving, Apart, Obeys}
+use Rattle.demand.specs.Rules.{Moving, HopsApart, Obeys}
 
 module _ (j : Job) (z : Size) (y : Says j (Accepted z)) where
   -- no two points are f hops apart where f makes that a collision
-  never : (s : ℕ) → s < j .m → Moving j s → (p q : List ℤ) (f : ℤ) → Apart j s p q f → Collide (stream j s .kind) (along j s) (g j s) (minusOf q p) f → ⊥
+  never : (s : ℕ) → s < j .m → Moving j s → (p q : List ℤ) (f : ℤ) → HopsApart j s p q f → Collide (stream j s .kind) (along j s) (g j s) (minusOf q p) f → ⊥
   never s l moving p q f a c = y .kept .1 s l p q f (record { moving = moving; pair = a .pair; place = a .place; time = a .time; collide = c })
 
   -- an accepted job keeps them all. Each is shown from what it supposes, so that a weaker rule is shown here too, and refused where the theorem needs the stronger

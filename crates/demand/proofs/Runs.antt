@@ -66,7 +66,7 @@ module _ (j : Job) (input : List ℕ) where
       }
 
   -- ---- a chain of ticks as two sequences: the places and the values before tick t, and at the end
-  pub record Steps (n : ℕ) (places values : List ℕ) : Type 0 where
+  pub record Chain (n : ℕ) (places values : List ℕ) : Type 0 where
     pub rooms : ℕ → List ℕ
     pub tables : ℕ → List ℕ
     pub last-room : rooms n ≡ places
@@ -87,8 +87,8 @@ module _ (j : Job) (input : List ℕ) where
   within n f a t h = rw (lt-ltb t (suc n) h)
 
   -- one tick more
-  steps-more : (n : ℕ) (places values places′ values′ : List ℕ) → Steps n places values → ArrayTicked j input n places values places′ values′ → Steps (suc n) places′ values′
-  steps-more n places values places′ values′ c h =
+  chain-more : (n : ℕ) (places values places′ values′ : List ℕ) → Chain n places values → ArrayTicked j input n places values places′ values′ → Chain (suc n) places′ values′
+  chain-more n places values places′ values′ c h =
       record {
         rooms = upTo n (c .rooms) places′;
         tables = upTo n (c .tables) values′;
@@ -104,12 +104,12 @@ module _ (j : Job) (input : List ℕ) where
           rw (within n (c .rooms) places′ t lt, within n (c .tables) values′ t lt, within n (c .rooms) places′ (suc t) (omega arith), within n (c .tables) values′ (suc t) (omega arith)) (c .each t (omega arith))
 
   -- every chain of ticks is two sequences
-  pub steps-of : (places values : List ℕ) {n : ℕ} {places′ values′ : List ℕ} → Ran j input places values n places′ values′ → Steps n places′ values′
-  steps-of places values ready = record { rooms = λ t. places; tables = λ t. values; last-room = refl; last-table = refl; each = λ t lt. absurd (omega arith) }
-  steps-of places values (ticked r h) = steps-more _ _ _ _ _ (steps-of places values r) h
+  pub chain-of : (places values : List ℕ) {n : ℕ} {places′ values′ : List ℕ} → Ran j input places values n places′ values′ → Chain n places′ values′
+  chain-of places values ready = record { rooms = λ t. places; tables = λ t. values; last-room = refl; last-table = refl; each = λ t lt. absurd (omega arith) }
+  chain-of places values (ticked r h) = chain-more _ _ _ _ _ (chain-of places values r) h
 
   -- so a chain of ticks is a run of the machine
-  abbrev pub run-of : {n : ℕ} {places values : List ℕ} → Steps n places values → Run (machine j input) (nest j input)
+  abbrev pub run-of : {n : ℕ} {places values : List ℕ} → Chain n places values → Run (machine j input) (nest j input)
   run-of {n} c =
       record {
         end = n;

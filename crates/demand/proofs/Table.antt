@@ -1,7 +1,7 @@
 -- The small jobs that document 01 marks *: each line of the table holds.
 use mathlib.Core.Path.{_≡_, refl, ap, subst}
 use mathlib.Core.List.{List, [], _∷_, map, tail}
-use Prim.Native.Nat.{ℕ, zero, suc, _*_, _<_}
+use Prim.Native.Nat.{ℕ, zero, suc, _<_}
 use native.Mathlib.Omega.{arith}
 use Rattle.space.specs.Vectors.{minusOf}
 use Rattle.boxes.specs.Boxes.{countOf, placeOf, pointOf, backOf}

@@ -22,7 +22,7 @@ abbrev pub Local : Job → ℕ → Type 0
 Local j s = stream j s .kind ≡ 1
 
 -- 'Take points p, q, p before q in box order, y = q - p, and suppose a whole number f has Sy = f·e and Hy = f·w'
-pub record Apart (j : Job) (s : ℕ) (p q : List ℤ) (f : ℤ) : Type 0 where
+pub record HopsApart (j : Job) (s : ℕ) (p q : List ℤ) (f : ℤ) : Type 0 where
   pub pair : Pair (senders j s) p q
   pub place : S j (minusOf q p) ≡ timesOf f (e j s)
   pub time : H j (minusOf q p) ≡ f *ℤ w j s
@@ -37,6 +37,6 @@ pub record Obeys (j : Job) : Type 0 where
   -- 'Cell: no two different box points have equal H and equal S'
   pub cell : (p q : List ℤ) → Pair (box j) p q → H j p ≡ H j q → S j p ≡ S j q → ⊥
   -- 'Link, only where Sd is not 0'. 'Local: a collision if 1 ≤ |f| ≤ g - 1'
-  pub link-local : (s : ℕ) → s < j .m → Local j s → Moving j s → (p q : List ℤ) (f : ℤ) → Apart j s p q f → 1 ≤ natAbs f → natAbs f ≤ g j s - 1 → ⊥
+  pub link-local : (s : ℕ) → s < j .m → Local j s → Moving j s → (p q : List ℤ) (f : ℤ) → HopsApart j s p q f → 1 ≤ natAbs f → natAbs f ≤ g j s - 1 → ⊥
   -- 'Through: a collision unless y is a whole multiple of d'
-  pub link-through : (s : ℕ) → s < j .m → Through j s → Moving j s → (p q : List ℤ) (f : ℤ) → Apart j s p q f → ((z : ℤ) → minusOf q p ≡ timesOf z (along j s) → ⊥) → ⊥
+  pub link-through : (s : ℕ) → s < j .m → Through j s → Moving j s → (p q : List ℤ) (f : ℤ) → HopsApart j s p q f → ((z : ℤ) → minusOf q p ≡ timesOf z (along j s) → ⊥) → ⊥

@@ -1,29 +1,16 @@
 -- The entries of an acceptable job fit a byte.
 use mathlib.Core.Path.{_≡_}
-use Prim.Native.Nat.{ℕ, _+_, _%_, _<_, _≤_}
+use Prim.Native.Nat.{ℕ, _+_, _%_, _<_}
 use native.Mathlib.Omega.{arith}
 use native.Mathlib.Nat.{mod-eq-of-lt}
 use lib.ListN.{getD}
 use lib.IntN.{ℤ}
-use Rattle.space.specs.declared.Vector.{Vector}
-use Rattle.space.specs.Numbers.{Size}
-use Rattle.space.specs.Vectors.{entries, Sized}
-use Rattle.space.proofs.Parts.{int, magnitude}
 use Rattle.job.specs.declared.Job.{Job}
 use Rattle.job.specs.Record.{streamsOf, rowsOf, noStream, zeroVector}
 use Rattle.job.specs.Limits.{Acceptable}
 use Rattle.job.proofs.Accepting.{stream-sound, row-sized}
 use Rattle.layout.specs.Layout.{complement, InByte, Held}
-use Rattle.layout.proofs.Entries.{below-256}
-
--- an entry of at most 127 in size
-size-in-byte : {b : ℕ} {z : ℤ} → b ≤ 127 → Size b z → InByte z
-size-in-byte {z = z} h s = record { low = omega (int, magnitude z); high = omega (int, magnitude z) }
-
--- a vector of such entries
-pub sized-held : {b : ℕ} {v : Vector} → b ≤ 127 → Sized b (entries v) → Held v
-sized-held h s =
-    record { x0 = size-in-byte h (s .each .0); x1 = size-in-byte h (s .each .1 .0); x2 = size-in-byte h (s .each .1 .1 .0); x3 = size-in-byte h (s .each .1 .1 .1 .0) }
+use Rattle.layout.proofs.Entries.{below-256, sized-held}
 
 module _ (j : Job) (a : Acceptable j) where
   -- the vector of a stream that is used

@@ -51,8 +51,15 @@ accepted j f = by (first-passes (limits j) ((λ e. omega arith), ((λ e. omega a
     by : Passes (limits j) → Acceptable j
     by p = record { shaped = p .0; boxed = p .1 .0; sound = p .1 .1 .0; rowed = p .1 .1 .1 .0 }
 
+pub passes : {j : Job} → Acceptable j → Passes (limits j)
+passes a = (a .shaped, (a .boxed, (a .sound, (a .rowed, tt))))
+
 pub acceptable : (j : Job) → Acceptable j → First (limits j) 0
-acceptable j a = passes-first (limits j) (a .shaped, (a .boxed, (a .sound, (a .rowed, tt))))
+acceptable j a = passes-first (limits j) (passes a)
+
+-- no limit refuses an acceptable record
+pub none-refuses : (j : Job) (r : ℕ) → Acceptable j → First (limits j) r → r ≡ 0
+none-refuses j r a f = first-unique (limits j) r 0 f (acceptable j a)
 
 -- checks that pass with others behind them pass
 pub then-passed : (cs ds : Checks) → First (andThen cs ds) 0 → First cs 0

@@ -1,5 +1,5 @@
-// The job as a record, and whether a record is acceptable.
-pub mod limits;
+// The job as a record, and whether a record has its shape.
+pub mod shape;
 
 use boxes::Bounds;
 use space::Vector;

@@ -11,7 +11,7 @@ use Rattle.boxes.specs.Boxes.{given}
 use Rattle.job.specs.declared.Job.{Job}
 use Rattle.job.specs.Refusals.{done, check, First}
 use Rattle.job.specs.Limits.{limits, Acceptable}
-use Rattle.job.proofs.Refusing.{Passes, then-first}
+use Rattle.job.proofs.Refusing.{passes, then-first}
 use Rattle.tables.specs.Tables.{points, entryFor, previous}
 use Rattle.cell.specs.Cells.{work}
 use Rattle.tables.proofs.TableLaws.{previous-before, same-work}
@@ -59,9 +59,6 @@ pub looped-end : (j : Job) (input values : List ℕ) (k : ℕ) → LoopedTo j in
 looped-end j input values k d le = record { size = d .size; each = λ s q ls lq. d .each s q ls (omega arith) }
 
 -- ---- the refusals
-pub passes : {j : Job} → Acceptable j → Passes (limits j)
-passes a = (a .shaped, (a .boxed, (a .sound, (a .rowed, tt))))
-
 -- 13 where a table has the wrong size, and no refusal where both have the right one
 pub table-refused : (j : Job) (input values : List ℕ) → Acceptable j → ((length input ≡ j .m * points j) × (length values ≡ j .m * points j) → ⊥) → First (loopChecks j input values) 13
 table-refused j input values a h = then-first (limits j) (check 13 ((length input ≡ j .m * points j) × (length values ≡ j .m * points j)) done) 13 (passes a) (inr (h, refl))

@@ -22,7 +22,7 @@ pub enum Reply {
 pub fn loop_of(j: Job, input: &[u32], values: &mut [u32]) -> Reply
     ensures { λ r. ⌜ Loops j (now (input .entry)) (now (values .entry)) (now (values .exit)) r ⌝ }
 {
-    let number = job::limits::number(j);
+    let number = limits::number(j);
     if number != 0 {
         return Reply::Refused(number);
     }

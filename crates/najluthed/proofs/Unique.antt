@@ -12,7 +12,7 @@ use Rattle.answers.specs.Answers.{numberOf as numberIn, countIn}
 use Rattle.answers.specs.declared.Reply.{Reply as RunReply}
 use Rattle.lookup.specs.declared.Worked.{Worked as Lookup}
 use Rattle.lookup.specs.declared.Worked.the-variants as Lookup
-use Rattle.array.proofs.UniqueReplies.{runs-of-unique, steps-of-unique}
+use Rattle.array.proofs.UniqueReplies.{runs-of-unique, single-tick-of-unique}
 use Rattle.lookup.proofs.Unique.{looks-of-unique}
 use Rattle.loops.specs.declared.Reply.{Reply as LoopReply}
 use Rattle.loops.specs.declared.Reply.the-variants as Loop
@@ -62,7 +62,7 @@ module _ (s input values places v p v′ p′ : List ℕ) (a b : Done) where
 
   pub answers-tick-unique : (t : ℕ) → AnswersTick t s input values places v p a → AnswersTick t s input values places v′ p′ b → (a ≡ b) × (v ≡ v′) × (p ≡ p′)
   answers-tick-unique t f g =
-      let e = steps-of-unique s input values places v p v′ p′ (f .0) (g .0) t (f .1) (g .1) in
+      let e = single-tick-of-unique s input values places v p v′ p′ (f .0) (g .0) t (f .1) (g .1) in
       (same-run (e .0) (f .2) (g .2), e .1, e .2)
 
 -- the look-up

@@ -12,7 +12,7 @@ use Rattle.replies.specs.declared.bytes.Room.the-variants as Room
 use Rattle.loops.specs.LoopBytes.{LoopsOf}
 use Rattle.loops.specs.declared.Reply.{Reply as LoopReply}
 use Rattle.loops.specs.declared.Reply.the-variants as Loop
-use Rattle.array.specs.Runs.{Runs, Steps, RepliesOf}
+use Rattle.array.specs.Runs.{Runs, SingleTick, RepliesOf}
 use Rattle.answers.specs.Answers.{numberOf as numberIn, countIn}
 use Rattle.lookup.specs.Lookups.{LooksOf}
 use Rattle.answers.specs.declared.Reply.{Reply as RunReply}
@@ -49,7 +49,7 @@ AnswersRun s input values places values′ places′ a =
 abbrev pub AnswersTick : ℕ → List ℕ → List ℕ → List ℕ → List ℕ → List ℕ → List ℕ → Done → Type 0
 AnswersTick t s input values places values′ places′ a =
     (r : RunReply)
-    × RepliesOf s (λ (j : Job). Steps t j input values places values′ places′ r) ((values′ ≡ values) × (places′ ≡ places)) r
+    × RepliesOf s (λ (j : Job). SingleTick t j input values places values′ places′ r) ((values′ ≡ values) × (places′ ≡ places)) r
     × Gives (numberIn r) (countIn r) a
 
 -- the loop: the point count, and 0 for a refusal

@@ -6,17 +6,15 @@ use Prim.Native.Nat.{ℕ, _+_, _*_, _<_, _≤_}
 use native.Mathlib.Nat.{mul-le-mul}
 use native.Mathlib.Decide.{decLe}
 use native.Mathlib.Omega.{arith}
-use lib.IntN.{ℤ}
 use Rattle.space.specs.declared.Vector.{Vector}
-use Rattle.space.specs.Numbers.{Size}
 use Rattle.space.specs.Vectors.{entries, Sized}
-use Rattle.space.proofs.Parts.{int, magnitude}
 use Rattle.job.specs.declared.Stream.{Stream}
 use Rattle.job.specs.declared.Job.{Job}
 use Rattle.job.specs.Refusals.{First}
 use Rattle.job.specs.Limits.{Unused, Idle, Shaped, Sound, Acceptable}
 use Rattle.job.proofs.Refusing.{first-unique, acceptable}
 use Rattle.layout.specs.Layout.{streamsFrom, matricesFrom, totalOf, headerOf, fileOf, InByte, Held, Lays}
+use Rattle.layout.proofs.Entries.{sized-held}
 use Rattle.layout.proofs.Injective.{lays-unique, file-length}
 use Rattle.reader.specs.Reading.{fileChecks, Reads, OfBytes}
 use Rattle.reader.specs.Pieces.{Headed}
@@ -27,14 +25,6 @@ use Rattle.reader.proofs.Piecing.{zero-held}
 use Rattle.reader.proofs.Replying.{record-first}
 
 -- ---- an acceptable job's entries are held in bytes
--- an entry under a limit
-size-held : {b : ℕ} {z : ℤ} → b ≤ 127 → Size b z → InByte z
-size-held {z = z} h p = record { low = omega (int, magnitude z, p .size); high = omega (int, magnitude z, p .size) }
-
--- a vector under a limit
-sized-held : {b : ℕ} {v : Vector} → b ≤ 127 → Sized b (entries v) → Held v
-sized-held h p = record { x0 = size-held h (p .each .0); x1 = size-held h (p .each .1 .0); x2 = size-held h (p .each .1 .1 .0); x3 = size-held h (p .each .1 .1 .1 .0) }
-
 -- a vector that is not used
 unused-held : (v : Vector) → Unused 0 v → Held v
 unused-held v u =

@@ -19,7 +19,7 @@ pub fn read(s: &[u8]) -> Reply
         return Reply::Refused(head);
     }
     let j = body::job_of(s);
-    let number = job::limits::number(j);
+    let number = limits::number(j);
     if number != 0 {
         return Reply::Refused(number);
     }

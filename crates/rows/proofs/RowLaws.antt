@@ -9,7 +9,7 @@ use lib.ListN.{length, take, drop}
 use Rattle.job.specs.declared.Job.{Job}
 use Rattle.job.specs.Refusals.{First}
 use Rattle.job.specs.Limits.{limits, Acceptable}
-use Rattle.job.proofs.Refusing.{first-unique, acceptable}
+use Rattle.job.proofs.Refusing.{none-refuses}
 use Rattle.reader.proofs.Theorems.{of-bytes-unique}
 use Rattle.tables.specs.Tables.{points}
 use Rattle.rows.specs.Rows.{Row, RowOf}
@@ -36,7 +36,7 @@ module _ (j : Job) (a : Acceptable j) (n : ℕ) (e : n ≡ points j) where
 
 -- no row of a job that is refused
 pub no-job : (j : Job) (table : List ℕ) (s number : ℕ) → First (limits j) number → (number ≡ 0 → ⊥) → Row j table s []
-no-job j table s number f z = inr ((λ w. z (first-unique (limits j) number 0 f (acceptable j (w .0)))), refl)
+no-job j table s number f z = inr ((λ w. z (none-refuses j number (w .0) f)), refl)
 
 -- no row where there is no such stream
 pub no-stream : (j : Job) (table : List ℕ) (s : ℕ) → j .m ≤ s → Row j table s []

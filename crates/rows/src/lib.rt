@@ -7,7 +7,7 @@ ghost use Rattle.rows.specs.Rows.{Row, RowOf};
 pub fn row_of<'a>(j: Job, table: &'a [u32], s: u8) -> &'a [u32]
     ensures { λ r. ⌜ Row j (now (table .entry)) s (now r) ⌝ }
 {
-    if job::limits::number(j) != 0 {
+    if limits::number(j) != 0 {
         return &table[..0];
     }
     let m = j.m as usize;

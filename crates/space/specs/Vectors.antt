@@ -1,4 +1,4 @@
--- 'Write Hx, Sx for the products.' Vectors of whole numbers, of any length n. In the code a vector has four entries, the unused ones 0, which changes no product, sum or order (proofs/Padding).
+-- 'Write Hx, Sx for the products.' Vectors of whole numbers, of any length n. In the code a vector has four entries, the unused ones 0, which changes no product, sum or order (Padding in the proofs of `boxes`).
 use mathlib.Core.Path.{_≡_}
 use mathlib.Core.Logic.{_⊎_}
 use mathlib.Core.List.{List, [], _∷_}

@@ -9,7 +9,7 @@ use Rattle.space.specs.Vectors.{entries, dotOf, plusOf, minusOf}
 use Rattle.space.specs.Order.{Before, Forward, AtMost}
 use Rattle.boxes.specs.Boxes.{Box, In, Apart}
 use Rattle.space.proofs.Parts.{int, difference}
-use Rattle.space.proofs.VectorLaws.{plus-minus, minus-plus, minus-length, dot-minus}
+use Rattle.space.proofs.VectorLaws.{plus-minus, minus-plus, minus-length, dot-minus, untwo}
 use Rattle.space.proofs.OrderLaws.{before-forward, forward-before}
 use Rattle.boxes.proofs.BoxLaws.{in-length}
 use Rattle.job.specs.declared.Job.{Job}
@@ -86,9 +86,6 @@ dot-same h p q e s = come (dotOf h p) (dotOf h q) (sym (dot-minus h q p (sym e))
     come : (x y : ℤ) → y -ℤ x ≡ pos 0 → x ≡ y
     come x y s = omega (int, difference y x)
 
-two : {x y a b : ℤ} → _≡_ {A = List ℤ} (x ∷ y ∷ []) (a ∷ b ∷ []) → (x ≡ a) × (y ≡ b)
-two e = (cc, cc)
-
 pub cell-by-gap : (j : Job) → ByGap (SameCell j) (box j) (Still j)
 cell-by-gap j =
     record {
@@ -99,13 +96,13 @@ cell-by-gap j =
   where
     still : (p q : List ℤ) → length p ≡ length q → H j p ≡ H j q → S j p ≡ S j q → Still j (minusOf q p)
     still p q e t s =
-        let w = two s in
+        let w = untwo s in
         (same-dot (entries (j .time)) p q e t, ap₂ (λ (x y : ℤ). x ∷ y ∷ []) (same-dot (entries (j .row0)) p q e (w .0)) (same-dot (entries (j .row1)) p q e (w .1)))
 
     back : (p q : List ℤ) → Pair (box j) p q → Still j (minusOf q p) → SameCell j p q
     back p q w s =
         let e = same-length (box j) p q w in
-        let t = two (s .1) in
+        let t = untwo (s .1) in
         record {
           pair = w;
           time = dot-same (entries (j .time)) p q e (s .0);

@@ -15,7 +15,7 @@ use Rattle.divisors.proofs.MultipleLaws.{times-cancel}
 use Rattle.space.proofs.OrderLaws.{before-irreflexive, before-trans}
 use Rattle.job.specs.declared.Job.{Job}
 use Rattle.job.specs.Limits.{limits}
-use Rattle.job.proofs.Refusing.{first-unique, acceptable}
+use Rattle.job.proofs.Refusing.{first-unique, none-refuses}
 use Rattle.mapping.specs.Mapping.{hop}
 use Rattle.mapping.proofs.Courses.{hop-nonzero}
 use Rattle.verdict.specs.Rules.{Meeting, Kept, Keeps, Sizes}
@@ -37,7 +37,7 @@ fewer j m (suc n) h k = at (decLe n m) (λ i. fewer j m n i (k .0))
 
 -- the rule that a refusal names is not kept
 broken : (j : Job) (v : Verdict) → turn v < 5 → Claims j v → Kept j (turn v) → ⊥
-broken j (Limit r) h c k = c .1 (first-unique (limits j) r 0 (c .0) (acceptable j k))
+broken j (Limit r) h c k = c .1 (none-refuses j r k (c .0))
 broken j (Precedence s) h c k = c .broken (k s (c .below))
 broken j (Hop s) h c k = c .broken (k s (c .below))
 broken j (Cell c) h f k = k (entries (c .p)) (entries (c .q)) (f .holds)

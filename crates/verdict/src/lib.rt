@@ -47,7 +47,7 @@ pub enum Verdict {
 pub fn verdict_of(j: Job) -> Verdict
     ensures { λ r. ⌜ Says j r ⌝ }
 {
-    let number = job::limits::number(j);
+    let number = limits::number(j);
     if number != 0 {
         return Verdict::Limit(number);
     }

@@ -5,8 +5,7 @@ use Prim.Native.Nat.{ℕ, _≤_}
 use native.Mathlib.Omega.{arith}
 use lib.ListN.{length, take}
 use Rattle.job.specs.declared.Job.{Job}
-use Rattle.job.specs.Limits.{limits}
-use Rattle.job.proofs.Refusing.{first-unique, acceptable}
+use Rattle.job.proofs.Refusing.{none-refuses}
 use Rattle.layout.specs.Layout.{fileOf}
 use Rattle.layout.proofs.Injective.{file-length}
 use Rattle.reader.specs.Reading.{Reads}
@@ -33,7 +32,7 @@ read-written s j before after r reads room w = by r w
     by : (r : Wrote) → Writes j before after r → (r ≡ Total (length s)) × (after ≡ over s before)
     by (Total t) w =
         (ap Total (w .1 ∙ sym (file-length j (reads .0 .shaped)) ∙ sym total), w .3 ∙ ap (λ (file : List ℕ). over file before) (reads .1))
-    by (Refused n) w = absurd (w .1 (first-unique (limits j) n 0 (w .0) (acceptable j (reads .0))))
+    by (Refused n) w = absurd (w .1 (none-refuses j n (reads .0) (w .0)))
     by (Short t) w = let e = file-length j (reads .0 .shaped) in let h = total in absurd (omega arith)
 
 -- acceptable bytes have exactly one job

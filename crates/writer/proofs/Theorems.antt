@@ -6,9 +6,8 @@ use native.Mathlib.Omega.{arith}
 use lib.ListN.{length, take, drop, length-append, length-drop}
 use lib.Seq.{take-at, drop-at}
 use Rattle.job.specs.declared.Job.{Job}
-use Rattle.job.specs.Refusals.{First}
-use Rattle.job.specs.Limits.{limits, Acceptable}
-use Rattle.job.proofs.Refusing.{first-unique, acceptable}
+use Rattle.job.specs.Limits.{limits}
+use Rattle.job.proofs.Refusing.{first-unique, none-refuses}
 use Rattle.layout.specs.Layout.{fileOf}
 use Rattle.layout.proofs.Injective.{file-length}
 use Rattle.writer.specs.declared.Wrote.{Wrote}
@@ -16,20 +15,16 @@ use Rattle.writer.specs.declared.Wrote.the-variants.{Total, Refused, Sho
 use Rattle.writer.specs.Writing.{Writes, Answers}
 use Rattle.writer.specs.declared.Answer.{Answer}
 
--- an acceptable job is not refused by a limit
-kept : (j : Job) (r : ℕ) → Acceptable j → First (limits j) r → r ≡ 0
-kept j r a f = first-unique (limits j) r 0 f (acceptable j a)
-
 -- two replies that are both right are one, and so are the bytes they leave
 pub writes-unique : (j : Job) (before after after′ : List ℕ) (r r′ : Wrote) → Writes j before after r → Writes j before after′ r′ → (r ≡ r′) × (after ≡ after′)
 writes-unique j before after after′ (Total t) (Total u) p q = (ap Total (p .1 ∙ sym (q .1)), p .3 ∙ sym (q .3))
-writes-unique j before after after′ (Total t) (Refused u) p q = absurd (q .1 (kept j u (p .0) (q .0)))
+writes-unique j before after after′ (Total t) (Refused u) p q = absurd (q .1 (none-refuses j u (p .0) (q .0)))
 writes-unique j before after after′ (Total t) (Short u) p q = absurd (omega arith)
-writes-unique j before after after′ (Refused t) (Total u) p q = absurd (p .1 (kept j t (q .0) (p .0)))
+writes-unique j before after after′ (Refused t) (Total u) p q = absurd (p .1 (none-refuses j t (q .0) (p .0)))
 writes-unique j before after after′ (Refused t) (Refused u) p q = (ap Refused (first-unique (limits j) t u (p .0) (q .0)), p .2 ∙ sym (q .2))
-writes-unique j before after after′ (Refused t) (Short u) p q = absurd (p .1 (kept j t (q .0) (p .0)))
+writes-unique j before after after′ (Refused t) (Short u) p q = absurd (p .1 (none-refuses j t (q .0) (p .0)))
 writes-unique j before after after′ (Short t) (Total u) p q = absurd (omega arith)
-writes-unique j before after after′ (Short t) (Refused u) p q = absurd (q .1 (kept j u (p .0) (q .0)))
+writes-unique j before after after′ (Short t) (Refused u) p q = absurd (q .1 (none-refuses j u (p .0) (q .0)))
 writes-unique j before after after′ (Short t) (Short u) p q = (ap Short (p .1 ∙ sym (q .1)), p .3 ∙ sym (q .3))
 
 -- after a total t the first t bytes are the file, the others are as they were, and there are as many as before

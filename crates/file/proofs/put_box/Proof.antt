@@ -8,7 +8,7 @@ use lib.ListN.{take}
 use borrow.Author.Needs.{needs}
 use Rattle.file.specs.Files.{over}
 use Rattle.file.proofs.Joined.{box-take}
-use Rattle.file.proofs.Fitting.{sized-held}
+use Rattle.layout.proofs.Entries.{sized-held}
 use Rattle.file.proofs.put_box.Statement.{statement}
 use Rattle.file.proofs.put_box.Tie as tie
 

@@ -1,11 +1,11 @@
 -- The rectangle of those rows and columns, and the stream's course as hop and delay.
 use mathlib.Core.Path.{_≡_, refl, ap, _∙_}
-use mathlib.Core.List.{List, [], _∷_}
+use mathlib.Core.List.{[], _∷_}
 use borrow.Author.Needs.{needs}
 use lib.IntN.{ℤ, natAbs}
 use Rattle.space.specs.Vectors.{entries}
 use Rattle.boxes.specs.Boxes.{Box, side}
-use Rattle.space.proofs.VectorLaws.{unfour}
+use Rattle.space.proofs.VectorLaws.{two, unfour}
 use Rattle.mapping.proofs.Fits.{row0-sized, row1-sized}
 use Rattle.mapping.proofs.Meetings.{unit-sized}
 use Rattle.verdict.proofs.SizeLaws.{delay-up, small-ends}
@@ -19,12 +19,9 @@ course-of-requires c κs = (c .pre .0, c .pre .4)
 size-requires : tie.Need-size-requires
 size-requires c κs = search needs
 
--- two sides, and two entries
+-- two sides
 sides : {a b c d a′ b′ c′ d′ : ℤ} → a ≡ a′ → b ≡ b′ → c ≡ c′ → d ≡ d′ → _≡_ {A = Box} (side a b ∷ side c d ∷ []) (side a′ b′ ∷ side c′ d′ ∷ [])
 sides e f g h = rw (e, f, g, h)
-
-two : {a b a′ b′ : ℤ} → a ≡ a′ → b ≡ b′ → _≡_ {A = List ℤ} (a ∷ b ∷ []) (a′ ∷ b′ ∷ [])
-two e f = rw (e, f)
 
 returns : tie.Need-returns
 returns c =

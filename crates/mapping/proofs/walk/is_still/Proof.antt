@@ -1,5 +1,4 @@
-use mathlib.Core.Path.{_≡_, sym, ap₂, _∙_}
-use mathlib.Core.List.{List, [], _∷_}
+use mathlib.Core.Path.{_≡_, sym, _∙_}
 use lib.Dec.{eqb}
 use lib.IntN.{ℤ, pos}
 use mir.Syntax.{w64}
@@ -7,7 +6,7 @@ use mir.Val.{SFits, ofZ}
 use borrow.Author.Needs.{needs}
 use Rattle.space.specs.Numbers.{Tells}
 use Rattle.space.proofs.Machine.{in-range}
-use Rattle.space.proofs.VectorLaws.{unfour}
+use Rattle.space.proofs.VectorLaws.{two, untwo, unfour}
 use Rattle.space.proofs.Telling.{tells-as, tells-and, tells-zero}
 use Rattle.mapping.proofs.walk.is_still.Statement.{statement}
 use Rattle.mapping.proofs.walk.is_still.Tie as tie
@@ -23,11 +22,8 @@ returns : tie.Need-returns
 returns c =
     let v = c .struct-told3 .given in
     let e = unfour (c .before .before .before .before .before .before .placed .ensures) in
-    tells-as (λ h. (h .0, ap₂ (λ (x y : ℤ). x ∷ y ∷ []) (h .1 .0) (h .1 .1))) (λ h. let w = two (h .1) in (h .0, (w .0, w .1)))
+    tells-as (λ h. (h .0, two (h .1 .0) (h .1 .1))) (λ h. let w = untwo (h .1) in (h .0, (w .0, w .1)))
     (tells-and _ _ (of-entry (in-range (v .0 .1)) (e .0)) (tells-and _ _ (of-entry (in-range (v .1 .0 .1)) (e .1)) (of-entry (in-range (v .1 .1 .0 .1)) (e .2))))
-  where
-    two : {x y : ℤ} → _≡_ {A = List ℤ} (x ∷ y ∷ []) (pos 0 ∷ pos 0 ∷ []) → (x ≡ pos 0) × (y ≡ pos 0)
-    two e = (cc, cc)
 
 pub is-still-spec : {M : Type 1} → statement M
 is-still-spec = tie.close (tie.spec placed-requires returns)
