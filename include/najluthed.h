@@ -14,7 +14,7 @@
  *      5  the bytes given differ in number from the total
  *      6  a bound of -128, a lower bound over its upper one, or over 1,024 points
  *      7  a stream breaks its limits: an entry of d beyond 15 in size, d not led by a positive entry or its gcd not 1,
- *         or a kind, a rule or a source that there is not
+ *         or a kind, a rule or a source that there is not, or a source of rule 0 that is not 0
  *      8  an entry of -128 in the time row or a place row
  *      9  precedence: a stream with Hd < 1
  *     10  hop: a moving stream with Hd no multiple of g, the gcd of Sd
@@ -67,7 +67,7 @@ typedef struct {
     uint64_t count;
 } najluthed_done;
 
-/* A point: `found` is 1 where there is one, and then x0 to x3 are its coordinates, 0 from the n-th on. Else all are 0. */
+/* A point: `found` is 1 where there is one, and then x0 to x3 are its coordinates, 0 from the n-th on. Else `found` and x0 to x3 are 0. */
 typedef struct {
     uint32_t number;
     uint32_t found;

@@ -59,7 +59,7 @@ module _ (j : Job) (R : Runnable j) (input : List ℕ) where
   pub ticked-unique : (t : ℕ) (places values p v p′ v′ : List ℕ) → length values ≡ j .m * points j → Ticked j input t places values p v → Ticked j input t places values p′ v′ → (p ≡ p′) × (v ≡ v′)
   ticked-unique t places values p v p′ v′ size a b = (
     places-same j R p p′ (λ s x r ls lx lr. turn s x r ls lx lr (ℕ-discrete r (t % w j s))) (a .length-places ∙ sym (b .length-places)) (a .beyond ∙ sym (b .beyond)),
-    tables-same j (R .acceptable) v v′ (a .length-values ∙ size) (b .length-values ∙ size) (λ s k ls lk. entry s k ls lk (ℕ-discrete (tickOf j k) t)),
+    tables-same j v v′ (a .length-values ∙ size) (b .length-values ∙ size) (λ s k ls lk. entry s k ls lk (ℕ-discrete (tickOf j k) t)),
   )
     where
       turn : (s x r : ℕ) → s < j .m → x < cells j → r < w j s → Dec (r ≡ t % w j s) → held j p s x r ≡ held j p′ s x r

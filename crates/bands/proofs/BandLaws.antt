@@ -24,7 +24,7 @@ use Rattle.boxes.proofs.BackLaws.{back-some, back-below}
 use Rattle.bands.specs.declared.Band.{Band}
 use Rattle.bands.specs.Bands.{rectangleOf, hopOf, at, arrivalIn, Lent, Shifted}
 use Rattle.bands.specs.Turns.{turnOf}
-use Rattle.space.proofs.Rows.{spots}
+use Rattle.space.proofs.Rows.{spots, rows-same}
 
 -- ---- two sides
 -- how many columns there are
@@ -168,3 +168,12 @@ module _ (b : Band) (slot : ℕ) (down : Bool) (before : List ℕ) where
 
   pub shift-end : (k : ℕ) (after : List ℕ) → Shifting b slot down before k after → countOf (rectangleOf b) ≤ k → Shifted b slot before after
   shift-end k after g h = record { size = g .size; taken = λ x lx. g .taken x lx (omega (arith, turn-below down (countOf (rectangleOf b)) x lx)); others = g .others }
+
+-- ---- one answer
+-- the places of a band after a shift are one list
+pub shifted-unique : (b : Band) (slot : ℕ) (before v w : List ℕ) → Lent b slot before → Shifted b slot before v → Shifted b slot before w → v ≡ w
+shifted-unique b slot before v w l p q = rows-same (countOf (rectangleOf b)) (b .w) v w (p .size ∙ l .size) (q .size ∙ l .size) (λ x r lx lr. by x r lx lr (ℕ-discrete r slot))
+  where
+    by : (x r : ℕ) → x < countOf (rectangleOf b) → r < b .w → Dec (r ≡ slot) → at (b .w) v x r ≡ at (b .w) w x r
+    by x r lx lr (yes e) = rw e (p .taken x lx ∙ sym (q .taken x lx))
+    by x r lx lr (no ne) = p .others x r lx lr ne ∙ sym (q .others x r lx lr ne)

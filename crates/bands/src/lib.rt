@@ -20,7 +20,7 @@ pub struct Band {
 }
 
 // The cell one hop before cell x, if it is in the rectangle.
-pub fn behind(b: Band, x: u64) -> Found
+fn behind(b: Band, x: u64) -> Found
     requires { ⌜ Shaped b × (x < countOf (rectangleOf b)) ⌝ }
     ensures { λ r. ⌜ foundOf r ≡ backOf (rectangleOf b) (hopOf b) x ⌝ }
 {

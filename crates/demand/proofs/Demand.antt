@@ -34,7 +34,7 @@ module _ (j : Job) (z : Size) (says : Says j (Accepted z)) where
   -- what the array leaves in the value table is what the loop leaves there
   pub demand-3 : (input places values places′ values′ looped : List ℕ) → length values ≡ j .m * points j → Ran j input places values (ticks j) places′ values′ → Looped j input looped → values′ ≡ looped
   demand-3 input places values places′ values′ looped size ran loop =
-      tables-same j (rules .limits) values′ looped (ran-size ran ∙ size) (loop .size) entry
+      tables-same j values′ looped (ran-size ran ∙ size) (loop .size) entry
     where
       steps : Chain j input (ticks j) places′ values′
       steps = chain-of j input places values ran

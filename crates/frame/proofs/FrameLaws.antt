@@ -1,12 +1,12 @@
--- Laws of the frame: every point has its tick below the tick count and its cell in the rectangle, and the sizes are those of the verdict.
+-- Laws of the frame: every point has its tick below the tick count and its cell in the rectangle, the cells are few enough for their product, and a timetable is written tick by tick and in one way.
 use mathlib.Core.Path.{_≡_, refl, sym, subst, _∙_}
 use mathlib.Core.List.{List}
 use Prim.Native.Nat.{ℕ, _+_, _*_, _<_, _≤_}
 use native.Mathlib.Nat.{mul-le-mul, mul-one, add-zero, le-trans, le-of-eq}
-use native.Mathlib.Decide.{ℕ-discrete}
+use native.Mathlib.Decide.{ℕ-discrete, decLe}
 use native.Mathlib.Omega.{arith}
 use lib.ListN.{length, getD, set, length-set}
-use lib.Seq.{getD-set-same, getD-set-other}
+use lib.Seq.{getD-set-same, getD-set-other, ext-getD}
 use lib.IntN.{ℤ}
 use lib.Signed.{_≤ℤ_}
 use Rattle.space.specs.Numbers.{Size, limit, entry, coordinate, steps}
@@ -105,3 +105,11 @@ timed-step {j} {k} {v} {l} T h e = record { size = rw (length-set l k v) (T .siz
     here : (i : ℕ) → i < k + 1 → Dec (i ≡ k) → getD (set l k v) i 0 ≡ tickOf j i
     here i li (yes d) = rw d (getD-set-same l k v 0 (omega (arith, T .size)) ∙ e)
     here i li (no ne) = getD-set-other l k i v 0 ne ∙ T .ticks i (omega arith)
+
+-- one timetable has every tick, and behind them what it had
+pub timetable-unique : (j : Job) (before v w : List ℕ) → Timed j (points j) v → Timed j (points j) w → length v ≡ length before → length w ≡ length before → ((i : ℕ) → points j ≤ i → getD v i 0 ≡ getD before i 0) → ((i : ℕ) → points j ≤ i → getD w i 0 ≡ getD before i 0) → v ≡ w
+timetable-unique j before v w p q ev ew rv rw′ = ext-getD 0 v w (ev ∙ sym ew) (λ i h. by i (decLe (points j) i))
+  where
+    by : (i : ℕ) → Dec (points j ≤ i) → getD v i 0 ≡ getD w i 0
+    by i (yes h) = rv i h ∙ sym (rw′ i h)
+    by i (no h) = p .ticks i (omega arith) ∙ sym (q .ticks i (omega arith))

@@ -50,7 +50,7 @@ module _ (j : Job) (a : Acceptable j) (input v w : List ℕ) where
 
     -- at most one table keeps the loop's equation
     pub looped-unique : v ≡ w
-    looped-unique = tables-same j a v w (p .size) (q .size) (λ s k ls lk. columns-same (points j) (omega arith) s k ls lk)
+    looped-unique = tables-same j v w (p .size) (q .size) (λ s k ls lk. columns-same (points j) (omega arith) s k ls lk)
 
 -- a job whose tables are taken is acceptable
 taken : (j : Job) (input values : List ℕ) → First (loopChecks j input values) 0 → Acceptable j

@@ -1,9 +1,22 @@
--- Places in rows of n: row and place in the row are told by the number.
+-- Places in rows of n: row and place in the row are told by the number, and a list of rows by its places.
 use mathlib.Core.Path.{_≡_, sym, ap, _∙_}
-use Prim.Native.Nat.{ℕ, _+_, _*_, _/_, _%_, _<_}
+use mathlib.Core.List.{List}
+use Prim.Native.Nat.{ℕ, zero, suc, _+_, _*_, _/_, _%_, _<_}
+use native.Mathlib.Nat.{div-add-mod', mod-lt, div-lt-iff-lt-mul}
+use native.Mathlib.Omega.{arith}
 use lib.Arith.{digits-div, digits-mod}
+use lib.ListN.{length, getD}
+use lib.Seq.{ext-getD}
 
 -- two places at one number are one
 pub spots : (n x y r q : ℕ) → r < n → q < n → y * n + q ≡ x * n + r → (y ≡ x) × (q ≡ r)
 spots n x y r q lr lq e =
     (sym (digits-div y lq) ∙ ap (λ (z : ℕ). z / n) e ∙ digits-div x lr, sym (digits-mod y lq) ∙ ap (λ (z : ℕ). z % n) e ∙ digits-mod x lr)
+
+-- two lists of m rows that hold the same at every place are the same
+pub rows-same : (m n : ℕ) (v w : List ℕ) → length v ≡ m * n → length w ≡ m * n → ((x r : ℕ) → x < m → r < n → getD v (x * n + r) 0 ≡ getD w (x * n + r) 0) → v ≡ w
+rows-same m n v w ev ew same = ext-getD 0 v w (ev ∙ sym ew) (λ i h. at n i same (omega (arith, ev)))
+  where
+    at : (n i : ℕ) → ((x r : ℕ) → x < m → r < n → getD v (x * n + r) 0 ≡ getD w (x * n + r) 0) → i < m * n → getD v i 0 ≡ getD w i 0
+    at zero i same l = absurd (omega arith)
+    at (suc n) i same l = let p : 0 < suc n = omega arith in rw div-add-mod' at (same (i / suc n) (i % suc n) (div-lt-iff-lt-mul p .1 l) (mod-lt i p))

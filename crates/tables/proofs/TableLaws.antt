@@ -3,24 +3,22 @@ use mathlib.Core.Path.{_≡_, refl, sym, _∙_}
 use mathlib.Core.Logic.{⊎-elim}
 use mathlib.Core.List.{List}
 use mathlib.Core.Option.{some}
-use Prim.Native.Nat.{ℕ, _+_, _*_, _/_, _%_, _<_, _≤_}
+use Prim.Native.Nat.{ℕ, _+_, _*_, _<_, _≤_}
 use native.Mathlib.Decide.{ℕ-discrete}
 use native.Mathlib.Omega.{arith}
 use lib.Arith.{digits-lt}
 use lib.ListN.{length, getD, set, length-set}
-use lib.Seq.{getD-set-same, getD-set-other, ext-getD}
+use lib.Seq.{getD-set-same, getD-set-other}
 use Rattle.boxes.proofs.BackLaws.{back-before}
 use Rattle.job.specs.declared.Job.{Job}
 use Rattle.job.specs.Refusals.{done}
 use Rattle.job.specs.Limits.{Acceptable}
 use Rattle.job.proofs.Accepting.{stream-sound}
 use Rattle.mapping.specs.Mapping.{box, stream, along}
-use Rattle.mapping.proofs.Fits.{some-point}
 use Rattle.tables.specs.Tables.{points, entryFor, previous}
 use Rattle.cell.specs.Cells.{ruled, work}
 use Rattle.tables.specs.Columns.{Column}
-use Rattle.space.proofs.Rows.{spots}
-use native.Mathlib.Nat.{div-add-mod', mod-lt, div-lt-iff-lt-mul}
+use Rattle.space.proofs.Rows.{spots, rows-same}
 
 -- ---- the point before one
 -- it stands before: d points forward
@@ -33,14 +31,8 @@ pub entry-in : (j : Job) (s k : ℕ) → s < j .m → k < points j → s * point
 entry-in j s k ls lk = digits-lt ls lk
 
 -- tables with the same entries are the same
-pub tables-same : (j : Job) → Acceptable j → (v w : List ℕ) → length v ≡ j .m * points j → length w ≡ j .m * points j → ((s k : ℕ) → s < j .m → k < points j → entryFor j v s k ≡ entryFor j w s k) → v ≡ w
-tables-same j a v w ev ew same = ext-getD 0 v w (ev ∙ sym ew) at
-  where
-    at : (i : ℕ) → i < length v → getD v i 0 ≡ getD w i 0
-    at i h =
-        let n = some-point a in
-        let l : i < j .m * points j = omega (arith, ev) in
-        rw div-add-mod' at (same (i / points j) (i % points j) (div-lt-iff-lt-mul n .1 l) (mod-lt i n))
+pub tables-same : (j : Job) (v w : List ℕ) → length v ≡ j .m * points j → length w ≡ j .m * points j → ((s k : ℕ) → s < j .m → k < points j → entryFor j v s k ≡ entryFor j w s k) → v ≡ w
+tables-same j = rows-same (j .m) (points j)
 
 -- an acceptable job has at most 4 streams and 1,024 points
 pub few-streams : {j : Job} → Acceptable j → j .m ≤ 4
@@ -88,3 +80,11 @@ column-step j k got l now s v c ls lk ev =
     go : (u : ℕ) → u < s + 1 → Dec (u ≡ s) → entryFor j (set now (s * points j + k) v) u k ≡ work j u (λ (t : ℕ). getD got t 0)
     go u lu (yes e) = rw e (getD-set-same now (s * points j + k) v 0 (omega (arith, entry-in j s k ls lk, c .size)) ∙ ev)
     go u lu (no ne) = away u k lk (λ e. ne (e .0)) ∙ c .here u (omega arith)
+
+-- one table has the column worked
+pub column-unique : (j : Job) (k : ℕ) (got before v w : List ℕ) → Column j k got before (j .m) v → Column j k got before (j .m) w → v ≡ w
+column-unique j k got before v w a b = tables-same j v w (a .size) (b .size) (λ s q ls lq. by s q ls lq (ℕ-discrete q k))
+  where
+    by : (s q : ℕ) → s < j .m → q < points j → Dec (q ≡ k) → entryFor j v s q ≡ entryFor j w s q
+    by s q ls lq (yes e) = rw e (a .here s ls ∙ sym (b .here s ls))
+    by s q ls lq (no ne) = a .others s q ls lq ne ∙ sym (b .others s q ls lq ne)

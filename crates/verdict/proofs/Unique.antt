@@ -11,13 +11,11 @@ use Rattle.space.specs.declared.Vector.{Vector}
 use Rattle.space.specs.Vectors.{entries, plusOf, minusOf}
 use Rattle.space.specs.Order.{Before, AtMost}
 use Rattle.space.proofs.VectorLaws.{plus-minus, vector-of}
-use Rattle.divisors.proofs.MultipleLaws.{times-cancel}
-use Rattle.space.proofs.OrderLaws.{before-irreflexive, before-trans}
+use Rattle.space.proofs.OrderLaws.{before-irreflexive, before-trans, at-most-both}
 use Rattle.job.specs.declared.Job.{Job}
 use Rattle.job.specs.Limits.{limits}
 use Rattle.job.proofs.Refusing.{first-unique, none-refuses}
-use Rattle.mapping.specs.Mapping.{hop}
-use Rattle.mapping.proofs.Courses.{hop-nonzero}
+use Rattle.mapping.proofs.OneAnswer.{one-hops}
 use Rattle.verdict.specs.Rules.{Meeting, Kept, Keeps, Sizes}
 use Rattle.verdict.specs.Replies.{Lowest, FirstPair, turn, Claims, Says}
 use Rattle.verdict.specs.declared.Size.{Size}
@@ -64,12 +62,7 @@ module _ {P : List ℤ → List ℤ → Type 0} {p q p′ q′ : List ℤ} (f : 
   at-most e (inr h) = h .1
 
   same-point : p ≡ p′
-  same-point = by (at-most same-gap (f .least p′ q′ (f′ .holds))) (at-most (sym same-gap) (f′ .least p q (f .holds)))
-    where
-      by : AtMost p p′ → AtMost p′ p → p ≡ p′
-      by (inr e) k = e
-      by (inl h) (inr e) = sym e
-      by (inl h) (inl k) = absurd (before-irreflexive p (before-trans p p′ p h k))
+  same-point = at-most-both p p′ (at-most same-gap (f .least p′ q′ (f′ .holds))) (at-most (sym same-gap) (f′ .least p q (f .holds)))
 
   same-end : length p ≡ length q → length p′ ≡ length q′ → q ≡ q′
   same-end a b = sym (plus-minus p q a) ∙ ap₂ plusOf same-point same-gap ∙ plus-minus p′ q′ b
@@ -82,7 +75,7 @@ pair-unique c c′ f f′ = made (c .p) (c .q) (c′ .p) (c′ .q) (vector-of (s
 
 -- the hops of two points are one number
 hops-unique : (j : Job) (s : ℕ) (p q : List ℤ) (f f′ : ℤ) → Meeting j s p q f → Meeting j s p q f′ → f ≡ f′
-hops-unique j s p q f f′ m n = times-cancel (hop j s) f f′ (hop-nonzero j s (m .moving)) (sym (m .place) ∙ n .place)
+hops-unique j s p q f f′ m n = one-hops j s (m .moving) (minusOf q p) f f′ (m .place) (n .place)
 
 link-unique : (j : Job) (c c′ : Clash) → Claims j (Link c) → Claims j (Link c′) → _≡_ {A = Verdict} (Link c) (Link c′)
 link-unique j c c′ p q = made (c .stream) (c′ .stream) (c .pair) (c′ .pair) (c .hops) (c′ .hops) (lowest-unique (p .0) (q .0)) (p .1) (q .1) (p .2) (q .2)

@@ -4,7 +4,6 @@ mod rules;
 use crate::rules::Broken;
 use crate::rules::Crowd;
 use crate::rules::Jam;
-use boxes::Bounds;
 use job::Job;
 use space::Vector;
 ghost use mathlib.Core.Path.{_≡_};

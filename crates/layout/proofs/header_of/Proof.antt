@@ -9,67 +9,51 @@ use Rattle.layout.proofs.streams_from.Reads as streams-from-reads
 use Rattle.layout.proofs.total_of.Reads as total-of-reads
 use Rattle.layout.proofs.wide.Reads as wide-reads
 
--- src/lib.rt:57:32
 wide-requires : tie.Need-wide-requires
 wide-requires c κs = search needs
 
--- src/lib.rt:57:9
 streams-from-requires : tie.Need-streams-from-requires
 streams-from-requires c κs = search needs
 
--- src/lib.rt:58:34
 wide-requires-2 : tie.Need-wide-requires-2
 wide-requires-2 c κs = search needs
 
--- src/lib.rt:58:43
 wide-requires-3 : tie.Need-wide-requires-3
 wide-requires-3 c κs = search needs
 
--- src/lib.rt:58:9
 matrices-from-requires : tie.Need-matrices-from-requires
 matrices-from-requires c κs = search needs
 
--- src/lib.rt:59:26
 wide-requires-4 : tie.Need-wide-requires-4
 wide-requires-4 c κs = search needs
 
--- src/lib.rt:59:35
 wide-requires-5 : tie.Need-wide-requires-5
 wide-requires-5 c κs = search needs
 
--- src/lib.rt:59:44
 wide-requires-6 : tie.Need-wide-requires-6
 wide-requires-6 c κs = search needs
 
--- src/lib.rt:59:9
 total-of-requires : tie.Need-total-of-requires
 total-of-requires c κs = search needs
 
--- src/lib.rt:69:9
 cast-t10 : tie.Need-cast-t10
 cast-t10 c = search needs
 
--- src/lib.rt:70:9
 cast-t11 : tie.Need-cast-t11
 cast-t11 c = search needs
 
--- src/lib.rt:71:9
 cast-t13 : tie.Need-cast-t13
 cast-t13 c = search needs
 
--- src/lib.rt:72:9
 cast-t16 : tie.Need-cast-t16
 cast-t16 c = search needs
 
--- src/lib.rt:73:9
 cast-t18 : tie.Need-cast-t18
 cast-t18 c = search needs
 
--- src/lib.rt:74:9
 cast-t21 : tie.Need-cast-t21
 cast-t21 c = search needs
 
--- src/lib.rt:53:1
 returns : tie.Need-returns
 unfolding headerOf
 returns c = cc
