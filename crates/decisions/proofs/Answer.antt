@@ -25,10 +25,10 @@ use Rattle.job.proofs.Refusing.{accepted}
 use Rattle.mapping.specs.Mapping.{box, stream, along, H, S, g, Stationary}
 use Rattle.mapping.specs.Collisions.{Collide, senders}
 use Rattle.mapping.specs.Courses.{placed}
-use Rattle.mapping.specs.Searches.{Still, Meets, Finds-gap}
+use Rattle.mapping.specs.Searches.{Still, Meets, MeetsSome, Finds-gap}
 use Rattle.mapping.specs.declared.walk.Gap.{Gap}
 use Rattle.mapping.specs.declared.walk.Gap.the-variants as Gap
-use Rattle.verdict.specs.Rules.{Ahead, Even, Meeting, Keeps, Sizes}
+use Rattle.verdict.specs.Rules.{Ahead, Even, Meeting, Clear, Keeps, Sizes}
 use Rattle.verdict.specs.Replies.{Lowest, FirstPair, Says}
 use Rattle.verdict.specs.Searches.{Finds, Finds-crowd, Finds-jam, Finds-jams}
 use Rattle.verdict.specs.declared.Size.{Size}
@@ -141,7 +141,7 @@ module _ (j : Job) (s : ℕ) where
       (both (same (placed j y) (timesOf f (unit-of j s))) (collides (stream j s .kind) (along j s) (g j s) y f))
 
   -- they meet at all
-  unfoldable meets : (Stationary j s → ⊥) → (y : List ℤ) → Decided ((f : ℤ) × Meets j s y f)
+  unfoldable meets : (Stationary j s → ⊥) → (y : List ℤ) → Decided (MeetsSome j s y)
   unfolding meetsThere
   meets moving y = alike (λ m. (hopsAt y, m)) (λ w. subst (Meets j s y) (hops-are y (w .0) moving (w .1)) (w .1)) (meetsThere y)
 
@@ -212,7 +212,7 @@ crowd j h = let w = gap-of (Still j) (still j) (j .bounds) (differences-spread (
 -- of a moving stream
 module _ (j : Job) (s : ℕ) (moving : Stationary j s → ⊥) where
   -- the first pair meets at the only hops that there are
-  pub first-meeting : (y : Vector) → Finds-gap (λ (y : List ℤ). (f : ℤ) × Meets j s y f) (senders j s) (Gap.At y) → Meeting j s (startOf (box j) (entries y)) (plusOf (startOf (box j) (entries y)) (entries y)) (hopsAt j s (entries y))
+  pub first-meeting : (y : Vector) → Finds-gap (MeetsSome j s) (senders j s) (Gap.At y) → Meeting j s (startOf (box j) (entries y)) (plusOf (startOf (box j) (entries y)) (entries y)) (hopsAt j s (entries y))
   unfolding startOf
   first-meeting y w =
       let x = entries y in
@@ -222,7 +222,7 @@ module _ (j : Job) (s : ℕ) (moving : Stationary j s → ⊥) where
       (subst (λ (z : List ℤ). Meets j s z (hopsAt j s x)) (sym (minus-plus p x refl)) m)
 
   -- what a difference that is found, or none, comes to
-  unfoldable jam-at : (r : Gap) → Finds-gap (λ (y : List ℤ). (f : ℤ) × Meets j s y f) (senders j s) r → (c : Jam) × Finds-jam j s c
+  unfoldable jam-at : (r : Gap) → Finds-gap (MeetsSome j s) (senders j s) r → (c : Jam) × Finds-jam j s c
   unfolding pairAt hopsAt
   jam-at (Gap.At y) w =
       (Jam.At (record { stream = s; pair = pairAt (j .bounds) (entries y); hops = hopsAt j s (entries y) }), (refl, (first-at (j .bounds) (link-by-gap j s moving) y w, first-meeting y w)))
@@ -233,11 +233,7 @@ unfoldable jam : (j : Job) → Solid (box j) → (s : ℕ) → (c : Jam) × Find
 unfolding stationary gap-of meets jam-at
 jam j h s =
     cases (stationary j s) (λ t. (Jam.Nowhere, λ p q f m. m .moving t))
-    (λ moving. let w = gap-of (λ (y : List ℤ). (f : ℤ) × Meets j s y f) (meets j s moving) (j .bounds) (differences-spread (j .bounds) h) in jam-at j s moving (w .0) (w .1))
-
--- no two tokens of a stream meet
-abbrev Clear : Job → ℕ → Type 0
-Clear j s = (p q : List ℤ) (f : ℤ) → Meeting j s p q f → ⊥
+    (λ moving. let w = gap-of (MeetsSome j s) (meets j s moving) (j .bounds) (differences-spread (j .bounds) h) in jam-at j s moving (w .0) (w .1))
 
 -- it is decided by the first pair of which some do
 abbrev clear-by : (j : Job) (s : ℕ) (c : Jam) → Finds-jam j s c → Decided (Clear j s)
@@ -279,7 +275,7 @@ module _ (j : Job) where
   -- the link rule, or accepted
   unfoldable past-cell : Solid (box j) → Keeps j 4 → (c : Jam) → Finds-jams j c → Answer j
   unfolding size
-  past-cell h k (Jam.At c) w = (Link c, record { kept = k; claim = (w .0, w .1 .0, w .1 .1) })
+  past-cell h k (Jam.At c) w = (Link c, record { kept = k; claim = w })
   past-cell h k Jam.Nowhere w = let z = size j in (Accepted (z .0), record { kept = (k, w); claim = z .1 })
 
   -- the cell rule

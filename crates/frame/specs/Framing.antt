@@ -7,17 +7,12 @@ use Rattle.space.specs.Vectors.{entries}
 use Rattle.boxes.specs.Boxes.{across, leastOf, reach}
 use Rattle.job.specs.declared.Job.{Job}
 use Rattle.mapping.specs.Mapping.{box, hop}
-use Rattle.verdict.specs.Rules.{Ahead}
 use Rattle.bands.specs.Bands.{rectangleOf, hopOf}
 use Rattle.bands.specs.declared.Band.{Band}
 use Rattle.tables.specs.Tables.{points}
 use Rattle.mapping.specs.Frames.{rectangle, cells, clock, ticks, tickOf, w}
 use Rattle.frame.specs.declared.Frame.{Frame}
 use Rattle.frame.specs.declared.Bands.{Bands}
-
--- precedence over all streams
-abbrev pub AllAhead : Job → Type 0
-AllAhead j = (s : ℕ) → s < j .m → Ahead j s
 
 -- b is the shape of the band of stream s
 pub record Banded (j : Job) (s : ℕ) (b : Band) : Type 0 where

@@ -13,7 +13,8 @@ ghost use Rattle.job.specs.Limits.{Acceptable};
 ghost use Rattle.mapping.specs.Mapping.{box};
 ghost use Rattle.tables.specs.Tables.{points as pointsOf};
 ghost use Rattle.mapping.specs.Frames.{tickOf, cellOf, cells};
-ghost use Rattle.frame.specs.Framing.{AllAhead, Framed, Banded, bandAt, AllBanded, Timed};
+ghost use Rattle.verdict.specs.Rules.{Ahead, All};
+ghost use Rattle.frame.specs.Framing.{Framed, Banded, bandAt, AllBanded, Timed};
 
 pub struct Frame {
     pub points: u64,
@@ -35,7 +36,7 @@ pub struct Bands {
 
 // The frame of a job.
 pub fn frame_of(j: Job) -> Frame
-    requires { ⌜ Acceptable j × AllAhead j ⌝ }
+    requires { ⌜ Acceptable j × All Ahead j ⌝ }
     ensures { λ r. ⌜ Framed j r ⌝ }
 {
     let b = j.bounds;
@@ -107,7 +108,7 @@ pub fn band_at(bands: Bands, s: u8) -> Band
 
 // The bands of all streams, in a rectangle of such rows and columns.
 fn bands_of(j: Job, rows: Reach, columns: Reach) -> Bands
-    requires { ⌜ Acceptable j × AllAhead j × Reaches (entries (j .row0)) (box j) rows × Reaches (entries (j .row1)) (box j) columns ⌝ }
+    requires { ⌜ Acceptable j × All Ahead j × Reaches (entries (j .row0)) (box j) rows × Reaches (entries (j .row1)) (box j) columns ⌝ }
     ensures { λ r. ⌜ AllBanded j r ⌝ }
 {
     let m = j.m;
@@ -130,7 +131,7 @@ fn or_first(s: u8, m: u8) -> u8
 
 // The band of stream s.
 fn band_of(j: Job, rows: Reach, columns: Reach, s: u8) -> Band
-    requires { ⌜ Acceptable j × AllAhead j × Reaches (entries (j .row0)) (box j) rows × Reaches (entries (j .row1)) (box j) columns × (s < j .m) ⌝ }
+    requires { ⌜ Acceptable j × All Ahead j × Reaches (entries (j .row0)) (box j) rows × Reaches (entries (j .row1)) (box j) columns × (s < j .m) ⌝ }
     ensures { λ r. ⌜ Banded j s r ⌝ }
 {
     let c = mapping::course::course_of(j, s);

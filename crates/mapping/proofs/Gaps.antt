@@ -18,7 +18,7 @@ use Rattle.boxes.specs.Boxes.{Box, boxOf, In, Apart, Solid, countOf, placeOf, p
 use Rattle.space.proofs.Parts.{int, sum}
 use Rattle.boxes.proofs.BoxLaws.{SidesSized, sides-sized, in-sized, across-size, in-length, lowsOf, solid-in, place-below, point-in, place-point, point-place, place-injective, before-place, place-before}
 use Rattle.job.specs.declared.Job.{Job}
-use Rattle.mapping.specs.Searches.{Finds-gap, Meets, MetAt}
+use Rattle.mapping.specs.Searches.{Finds-gap, MeetsSome, MetAt}
 use Rattle.mapping.specs.declared.walk.Met.{Met}
 use Rattle.mapping.specs.declared.walk.Met.the-variants as Met
 use Rattle.mapping.specs.declared.walk.Gap.the-variants as Gap
@@ -153,12 +153,8 @@ module _ (P : List ℤ → Type 0) (B D : Box) (d : Spread B D) where
       under : (y : List ℤ) → In D y → placeOf D y < i
       under y h = omega (arith, place-below D y h)
 
--- ---- whether two tokens meet, by the answer's kind alone
+-- ---- that two tokens do not meet, by the answer's kind alone
 module _ (j : Job) (s : ℕ) (y : List ℤ) where
-  pub met-hops : (m : Met) → MetAt j s y m → tagOf the-type m ≡ 0 → (f : ℤ) × Meets j s y f
-  met-hops (Met.Hops f) w e = (f, w)
-  met-hops Met.Apart w e = absurd (omega arith)
-
-  pub met-apart : (m : Met) → MetAt j s y m → tagOf the-type m ≡ 1 → (f : ℤ) × Meets j s y f → ⊥
+  pub met-apart : (m : Met) → MetAt j s y m → tagOf the-type m ≡ 1 → MeetsSome j s y → ⊥
   met-apart (Met.Hops f) w e k = absurd (omega arith)
   met-apart Met.Apart w e k = w (k .0) (k .1)

@@ -6,18 +6,16 @@ use job::Job;
 use job::Stream;
 use space::Vector;
 ghost use mathlib.Core.Path.{_≡_};
-ghost use mathlib.Core.List.{List};
 ghost use Prim.Native.Nat.{_+_, _<_};
-ghost use lib.IntN.{ℤ};
 ghost use Rattle.space.specs.Numbers.{Tells, difference, limit};
 ghost use Rattle.space.specs.Vectors.{entries, Sized, NonZero};
 ghost use Rattle.boxes.specs.Boxes.{In, boxOf, placeOf, PointAt};
 ghost use Rattle.job.specs.Record.{zeroVector};
 ghost use Rattle.job.specs.Limits.{Acceptable};
 ghost use Rattle.mapping.specs.Mapping.{box, stream, Stationary};
-ghost use Rattle.mapping.specs.Collisions.{Collide, senders};
+ghost use Rattle.mapping.specs.Collisions.{Collide};
 ghost use Rattle.mapping.specs.Courses.{CourseOf};
-ghost use Rattle.mapping.specs.Searches.{Still, MetAt, Meets, Finds-gap};
+ghost use Rattle.mapping.specs.Searches.{Still, MetAt, Finds-gap, Finds-link};
 
 // Whether two tokens meet, and how many hops apart.
 pub enum Met {
@@ -31,6 +29,18 @@ pub enum Gap {
     Nowhere,
 }
 
+// A difference of two points whose tokens meet, and how many hops they are apart.
+pub struct Link {
+    pub gap: Vector,
+    pub hops: i64,
+}
+
+// The same, where one was found.
+pub enum FirstLink {
+    At(Link),
+    Nowhere,
+}
+
 // Do two points y apart share cell and tick?
 fn is_still(j: Job, y: Vector) -> bool
     requires { ⌜ Acceptable j × Sized difference (entries y) ⌝ }
@@ -40,15 +50,7 @@ fn is_still(j: Job, y: Vector) -> bool
     (v.x0 == 0) & ((v.x1 == 0) & (v.x2 == 0))
 }
 
-// Two tokens of stream s whose points are y apart: do they meet, and how many hops apart?
-pub fn meeting(j: Job, s: u8, c: Course, y: Vector) -> Met
-    requires { ⌜ Acceptable j × (s < j .m) × (Stationary j s → ⊥) × CourseOf j s c × Sized difference (entries y) ⌝ }
-    ensures { λ r. ⌜ MetAt j s (entries y) r ⌝ }
-{
-    meeting_of(j, s, job::stream_at(j, s), c, y)
-}
-
-// The same, where t is the stream.
+// Two tokens of stream s, which is t, whose points are y apart: do they meet, and how many hops apart?
 fn meeting_of(j: Job, s: u8, t: Stream, c: Course, y: Vector) -> Met
     requires { ⌜ Acceptable j × (s < j .m) × (Stationary j s → ⊥) × CourseOf j s c × Sized difference (entries y) × (t ≡ stream j s) ⌝ }
     ensures { λ r. ⌜ MetAt j s (entries y) r ⌝ }
@@ -135,10 +137,10 @@ pub fn cell_gap(j: Job) -> Gap
     Gap::Nowhere
 }
 
-// The first difference at which two tokens of the stream meet.
-pub fn link_gap(j: Job, s: u8, c: Course) -> Gap
+// The first difference at which two tokens of the stream meet, and the hops.
+pub fn first_link(j: Job, s: u8, c: Course) -> FirstLink
     requires { ⌜ Acceptable j × (s < j .m) × (Stationary j s → ⊥) × CourseOf j s c ⌝ }
-    ensures { λ r. ⌜ Finds-gap (λ (y : List ℤ). (f : ℤ) × Meets j s y f) (senders j s) r ⌝ }
+    ensures { λ r. ⌜ Finds-link j s r ⌝ }
 {
     let t = job::stream_at(j, s);
     let b = boxes::differences(j.bounds);
@@ -146,11 +148,11 @@ pub fn link_gap(j: Job, s: u8, c: Course) -> Gap
     let mut i = first_place(b);
     let mut y = first_gap(b);
     while i < n {
-        if let Met::Hops(_f) = meeting_of(j, s, t, c, y) {
-            return Gap::At(y);
+        if let Met::Hops(f) = meeting_of(j, s, t, c, y) {
+            return FirstLink::At(Link { gap: y, hops: f });
         }
         y = boxes::next(b, y);
         i += 1;
     }
-    Gap::Nowhere
+    FirstLink::Nowhere
 }

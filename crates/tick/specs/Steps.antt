@@ -8,20 +8,20 @@ use Rattle.space.specs.Numbers.{roomLimit}
 use Rattle.boxes.specs.Boxes.{given}
 use Rattle.job.specs.declared.Job.{Job}
 use Rattle.job.specs.Limits.{Acceptable}
-use Rattle.verdict.specs.Rules.{Even}
+use Rattle.verdict.specs.Rules.{Ahead, Even, All}
 use Rattle.bands.specs.Bands.{at, Lent}
 use Rattle.bands.specs.declared.Band.{Band}
 use Rattle.tables.specs.Tables.{points, entryFor}
 use Rattle.mapping.specs.Frames.{cells, tickOf, cellOf, w, from, room, held}
 use Rattle.tick.specs.Ticks.{lastOf, works, arrival, fresh}
 use Rattle.frame.specs.declared.Frame.{Frame}
-use Rattle.frame.specs.Framing.{AllAhead, Banded, Framed}
+use Rattle.frame.specs.Framing.{Banded, Framed}
 
 -- what a job that may run has: it keeps the limits, precedence and hop, and its room is inside the size limit
 pub record Runnable (j : Job) : Type 0 where
   pub acceptable : Acceptable j
-  pub ahead : AllAhead j
-  pub even : (s : ℕ) → s < j .m → Even j s
+  pub ahead : All Ahead j
+  pub even : All Even j
   pub few : room j ≤ roomLimit
 
 -- a job that may run with its frame, and a table with a column for each point

@@ -1,13 +1,12 @@
 -- What an accepted verdict gives, and that no refusal stands beside it.
 use mathlib.Core.Path.{_≡_, ap}
 use mathlib.Core.List.{[], _∷_}
-use Prim.Native.Nat.{ℕ, _<_}
 use native.Mathlib.Omega.{arith}
 use types.Run.{OneOf, miss}
 use denote.Enum.Declared.{tagOf}
 use Rattle.job.specs.declared.Job.{Job}
 use Rattle.job.specs.Limits.{Acceptable}
-use Rattle.verdict.specs.Rules.{Ahead}
+use Rattle.verdict.specs.Rules.{Ahead, All}
 use Rattle.verdict.specs.Replies.{Says, numberOf}
 use Rattle.verdict.specs.declared.Size.{Size}
 use Rattle.verdict.specs.declared.Verdict.{Verdict}
@@ -29,7 +28,7 @@ pub accepted-limits : {j : Job} {z : Size} → Says j (Accepted z) → Acceptabl
 accepted-limits s = s .kept .0 .0 .0 .0 .1
 
 -- and precedence
-pub accepted-ahead : {j : Job} {z : Size} → Says j (Accepted z) → Acceptable j × ((s : ℕ) → s < j .m → Ahead j s)
+pub accepted-ahead : {j : Job} {z : Size} → Says j (Accepted z) → Acceptable j × All Ahead j
 accepted-ahead s = (accepted-limits s, s .kept .0 .0 .0 .1)
 
 -- the sizes of one accepted array are the same

@@ -15,8 +15,8 @@ use Rattle.boxes.proofs.BoxLaws.{in-length}
 use Rattle.job.specs.declared.Job.{Job}
 use Rattle.mapping.specs.Mapping.{box, H, S, Stationary}
 use Rattle.mapping.specs.Collisions.{senders}
-use Rattle.mapping.specs.Searches.{Still, Meets}
-use Rattle.verdict.specs.Rules.{Pair, SameCell, Meeting}
+use Rattle.mapping.specs.Searches.{Still, Meets, MeetsSome}
+use Rattle.verdict.specs.Rules.{Pair, SameCell, Meeting, MeetingSome}
 use Rattle.verdict.specs.Replies.{FirstPair}
 
 -- two points of a box are as long, and the second is the first and their difference
@@ -116,7 +116,7 @@ meets-meeting j s p q f m w h = record { moving = m; pair = w; place = h .place;
 pub meeting-meets : (j : Job) (s : ℕ) (p q : List ℤ) (f : ℤ) → Meeting j s p q f → Meets j s (minusOf q p) f
 meeting-meets j s p q f h = record { place = h .place; time = h .time; collide = h .collide }
 
-pub link-by-gap : (j : Job) (s : ℕ) → (Stationary j s → ⊥) → ByGap (λ (p q : List ℤ). (f : ℤ) × Meeting j s p q f) (senders j s) (λ (y : List ℤ). (f : ℤ) × Meets j s y f)
+pub link-by-gap : (j : Job) (s : ℕ) → (Stationary j s → ⊥) → ByGap (MeetingSome j s) (senders j s) (MeetsSome j s)
 link-by-gap j s m =
     record {
       pair = λ p q h. h .1 .pair;

@@ -16,7 +16,7 @@ use Rattle.job.specs.declared.Job.{Job}
 use Rattle.job.specs.Limits.{limits}
 use Rattle.job.proofs.Refusing.{first-unique, none-refuses}
 use Rattle.mapping.proofs.OneAnswer.{one-hops}
-use Rattle.verdict.specs.Rules.{Meeting, Kept, Keeps, Sizes}
+use Rattle.verdict.specs.Rules.{Meeting, MeetingSome, Kept, Keeps, Sizes}
 use Rattle.verdict.specs.Replies.{Lowest, FirstPair, turn, Claims, Says}
 use Rattle.verdict.specs.declared.Size.{Size}
 use Rattle.verdict.specs.declared.Pair.{Pair}
@@ -39,7 +39,7 @@ broken j (Limit r) h c k = c .1 (none-refuses j r k (c .0))
 broken j (Precedence s) h c k = c .broken (k s (c .below))
 broken j (Hop s) h c k = c .broken (k s (c .below))
 broken j (Cell c) h f k = k (entries (c .p)) (entries (c .q)) (f .holds)
-broken j (Link c) h f k = k (c .stream) (f .0 .below) (entries (c .pair .p)) (entries (c .pair .q)) (c .hops) (f .2)
+broken j (Link c) h f k = k (c .stream) (f .0 .below) (entries (c .pair .p)) (entries (c .pair .q)) (c .hops) (f .1 .1)
 broken j (Accepted z) h c k = absurd (omega arith)
 
 -- ---- one reply of each kind
@@ -78,11 +78,11 @@ hops-unique : (j : Job) (s : ℕ) (p q : List ℤ) (f f′ : ℤ) → Meeting j 
 hops-unique j s p q f f′ m n = one-hops j s (m .moving) (minusOf q p) f f′ (m .place) (n .place)
 
 link-unique : (j : Job) (c c′ : Clash) → Claims j (Link c) → Claims j (Link c′) → _≡_ {A = Verdict} (Link c) (Link c′)
-link-unique j c c′ p q = made (c .stream) (c′ .stream) (c .pair) (c′ .pair) (c .hops) (c′ .hops) (lowest-unique (p .0) (q .0)) (p .1) (q .1) (p .2) (q .2)
+link-unique j c c′ p q = made (c .stream) (c′ .stream) (c .pair) (c′ .pair) (c .hops) (c′ .hops) (lowest-unique (p .0) (q .0)) (p .1 .0) (q .1 .0) (p .1 .1) (q .1 .1)
   where
-    made : (s s′ : ℕ) (r r′ : Pair) (f f′ : ℤ) → s ≡ s′ → FirstPair (λ (p q : List ℤ). (f : ℤ) × Meeting j s p q f) (entries (r .p)) (entries (r .q)) → FirstPair (λ (p q : List ℤ). (f : ℤ) × Meeting j s′ p q f) (entries (r′ .p)) (entries (r′ .q)) → Meeting j s (entries (r .p)) (entries (r .q)) f → Meeting j s′ (entries (r′ .p)) (entries (r′ .q)) f′ → _≡_ {A = Verdict} (Link (record { stream = s; pair = r; hops = f })) (Link (record { stream = s′; pair = r′; hops = f′ }))
+    made : (s s′ : ℕ) (r r′ : Pair) (f f′ : ℤ) → s ≡ s′ → FirstPair (MeetingSome j s) (entries (r .p)) (entries (r .q)) → FirstPair (MeetingSome j s′) (entries (r′ .p)) (entries (r′ .q)) → Meeting j s (entries (r .p)) (entries (r .q)) f → Meeting j s′ (entries (r′ .p)) (entries (r′ .q)) f′ → _≡_ {A = Verdict} (Link (record { stream = s; pair = r; hops = f })) (Link (record { stream = s′; pair = r′; hops = f′ }))
     made s s′ r r′ f f′ e a b m n =
-        let b′ = subst (λ (s : ℕ). FirstPair (λ (p q : List ℤ). (f : ℤ) × Meeting j s p q f) (entries (r′ .p)) (entries (r′ .q))) (sym e) b in
+        let b′ = subst (λ (s : ℕ). FirstPair (MeetingSome j s) (entries (r′ .p)) (entries (r′ .q))) (sym e) b in
         let n′ = subst (λ (s : ℕ). Meeting j s (entries (r′ .p)) (entries (r′ .q)) f′) (sym e) n in
         let u = pair-unique r r′ a b′ in
         let n″ = subst (λ (r : Pair). Meeting j s (entries (r .p)) (entries (r .q)) f′) (sym u) n′ in

@@ -9,7 +9,8 @@ use Rattle.space.specs.Order.{Before, AtMost}
 use Rattle.job.specs.declared.Job.{Job}
 use Rattle.job.specs.Refusals.{First}
 use Rattle.job.specs.Limits.{limits}
-use Rattle.verdict.specs.Rules.{Ahead, Even, SameCell, Meeting, Keeps, Sizes}
+use Rattle.verdict.specs.Rules.{Ahead, Even, SameCell, Meeting, MeetingSome, Clear, Keeps, Sizes}
+use Rattle.verdict.specs.declared.Clash.{Clash}
 use Rattle.verdict.specs.declared.Verdict.{Verdict}
 use Rattle.verdict.specs.declared.Verdict.the-variants.{Accepted, Limit, Precedence, Hop, Cell, Link}
 
@@ -23,6 +24,12 @@ pub record Lowest (P : ℕ → Type 0) (m s : ℕ) : Type 0 where
 pub record FirstPair (P : List ℤ → List ℤ → Type 0) (p q : List ℤ) : Type 0 where
   pub holds : P p q
   pub least : (p′ q′ : List ℤ) → P p′ q′ → Before (minusOf q p) (minusOf q′ p′) ⊎ ((minusOf q p ≡ minusOf q′ p′) × AtMost p p′)
+
+-- it is the first pair of the stream whose tokens meet, with its hops
+abbrev pub Clashes : Job → Clash → Type 0
+Clashes j c =
+    FirstPair (MeetingSome j (c .stream)) (entries (c .pair .p)) (entries (c .pair .q))
+    × Meeting j (c .stream) (entries (c .pair .p)) (entries (c .pair .q)) (c .hops)
 
 -- how many rules are kept before a reply
 abbrev pub turn : Verdict → ℕ
@@ -39,10 +46,7 @@ Claims j (Limit r) = First (limits j) r × (r ≡ 0 → ⊥)
 Claims j (Precedence s) = Lowest (Ahead j) (j .m) s
 Claims j (Hop s) = Lowest (Even j) (j .m) s
 Claims j (Cell c) = FirstPair (SameCell j) (entries (c .p)) (entries (c .q))
-Claims j (Link c) =
-    Lowest (λ (s : ℕ). (p q : List ℤ) (f : ℤ) → Meeting j s p q f → ⊥) (j .m) (c .stream)
-    × FirstPair (λ (p q : List ℤ). (f : ℤ) × Meeting j (c .stream) p q f) (entries (c .pair .p)) (entries (c .pair .q))
-    × Meeting j (c .stream) (entries (c .pair .p)) (entries (c .pair .q)) (c .hops)
+Claims j (Link c) = Lowest (Clear j) (j .m) (c .stream) × Clashes j c
 Claims j (Accepted z) = Sizes j z
 
 -- v is the verdict on j

@@ -42,13 +42,24 @@ pub record Meeting (j : Job) (s : ℕ) (p q : List ℤ) (f : ℤ) : Type 0 where
   pub time : H j (minusOf q p) ≡ f *ℤ delay j s
   pub collide : Collide (stream j s .kind) (along j s) (g j s) (minusOf q p) f
 
+-- two tokens of the stream from p and q meet; and that no tokens of it do
+abbrev pub MeetingSome : Job → ℕ → List ℤ → List ℤ → Type 0
+MeetingSome j s p q = (f : ℤ) × Meeting j s p q f
+
+abbrev pub Clear : Job → ℕ → Type 0
+Clear j s = (p q : List ℤ) (f : ℤ) → Meeting j s p q f → ⊥
+
+-- of every stream
+abbrev pub All : (Job → ℕ → Type 0) → Job → Type 0
+All P j = (s : ℕ) → s < j .m → P j s
+
 -- 'First broken rule: precedence over all streams, then hop over all streams, then cell, then link over all streams': the rules in their order, after the limits
 abbrev pub Kept : Job → ℕ → Type 0
 Kept j zero = Acceptable j
-Kept j (suc zero) = (s : ℕ) → s < j .m → Ahead j s
-Kept j (suc (suc zero)) = (s : ℕ) → s < j .m → Even j s
+Kept j (suc zero) = All Ahead j
+Kept j (suc (suc zero)) = All Even j
 Kept j (suc (suc (suc zero))) = (p q : List ℤ) → SameCell j p q → ⊥
-Kept j (suc (suc (suc (suc more)))) = (s : ℕ) → s < j .m → (p q : List ℤ) (f : ℤ) → Meeting j s p q f → ⊥
+Kept j (suc (suc (suc (suc more)))) = All Clear j
 
 -- the first n of them
 abbrev pub Keeps : Job → ℕ → Type 0

@@ -5,9 +5,8 @@ use Prim.Native.Nat.{ℕ, _<_}
 use lib.IntN.{ℤ}
 use Rattle.space.specs.Vectors.{entries}
 use Rattle.job.specs.declared.Job.{Job}
-use Rattle.verdict.specs.Rules.{SameCell, Meeting}
-use Rattle.verdict.specs.Replies.{Lowest, FirstPair}
-use Rattle.verdict.specs.declared.Clash.{Clash}
+use Rattle.verdict.specs.Rules.{SameCell, Clear, All}
+use Rattle.verdict.specs.Replies.{Lowest, FirstPair, Clashes}
 use Rattle.verdict.specs.declared.rules.Broken.{Broken}
 use Rattle.verdict.specs.declared.rules.Broken.the-variants as Broken
 use Rattle.verdict.specs.declared.rules.Crowd.{Crowd}
@@ -26,16 +25,11 @@ Finds-crowd j (Crowd.At c) = FirstPair (SameCell j) (entries (c .p)) (entries (c
 Finds-crowd j Crowd.Nowhere = (p q : List ℤ) → SameCell j p q → ⊥
 
 -- the first pair of a stream whose tokens meet
-abbrev pub Clashes : Job → Clash → Type 0
-Clashes j c =
-    FirstPair (λ (p q : List ℤ). (f : ℤ) × Meeting j (c .stream) p q f) (entries (c .pair .p)) (entries (c .pair .q))
-    × Meeting j (c .stream) (entries (c .pair .p)) (entries (c .pair .q)) (c .hops)
-
 abbrev pub Finds-jam : Job → ℕ → Jam → Type 0
 Finds-jam j s (Jam.At c) = (c .stream ≡ s) × Clashes j c
-Finds-jam j s Jam.Nowhere = (p q : List ℤ) (f : ℤ) → Meeting j s p q f → ⊥
+Finds-jam j s Jam.Nowhere = Clear j s
 
 -- the same over all streams
 abbrev pub Finds-jams : Job → Jam → Type 0
-Finds-jams j (Jam.At c) = Lowest (λ (s : ℕ). (p q : List ℤ) (f : ℤ) → Meeting j s p q f → ⊥) (j .m) (c .stream) × Clashes j c
-Finds-jams j Jam.Nowhere = (s : ℕ) → s < j .m → (p q : List ℤ) (f : ℤ) → Meeting j s p q f → ⊥
+Finds-jams j (Jam.At c) = Lowest (Clear j) (j .m) (c .stream) × Clashes j c
+Finds-jams j Jam.Nowhere = All Clear j

@@ -7,10 +7,10 @@ use crate::rules::Jam;
 use job::Job;
 use space::Vector;
 ghost use mathlib.Core.Path.{_≡_};
-ghost use Prim.Native.Nat.{ℕ, _<_, _≤_};
+ghost use Prim.Native.Nat.{_<_, _≤_};
 ghost use Rattle.job.specs.Limits.{Acceptable};
 ghost use Rattle.mapping.specs.Mapping.{delays};
-ghost use Rattle.verdict.specs.Rules.{Ahead, Sizes};
+ghost use Rattle.verdict.specs.Rules.{Ahead, All, Sizes};
 ghost use Rattle.verdict.specs.Replies.{Says};
 
 // How many cells and ticks an accepted array has, and how many register places.
@@ -71,7 +71,7 @@ pub fn verdict_of(j: Job) -> Verdict
 
 // The sum of the w.
 fn all_delays(j: Job) -> u64
-    requires { ⌜ Acceptable j × ((s : ℕ) → s < j .m → Ahead j s) ⌝ }
+    requires { ⌜ Acceptable j × All Ahead j ⌝ }
     ensures few { λ r. ⌜ r ≤ 30480 ⌝ }
     ensures are { λ r. ⌜ r ≡ delays j (j .m) ⌝ }
 {
@@ -89,7 +89,7 @@ fn all_delays(j: Job) -> u64
 
 // Cells, ticks and room of a job that keeps precedence.
 fn sizes(j: Job) -> Size
-    requires { ⌜ Acceptable j × ((s : ℕ) → s < j .m → Ahead j s) ⌝ }
+    requires { ⌜ Acceptable j × All Ahead j ⌝ }
     ensures { λ r. ⌜ Sizes j r ⌝ }
 {
     let b = j.bounds;

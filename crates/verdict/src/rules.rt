@@ -2,8 +2,8 @@
 use crate::Clash;
 use crate::Pair;
 use job::Job;
+use mapping::walk::FirstLink;
 use mapping::walk::Gap;
-use mapping::walk::Met;
 ghost use Prim.Native.Nat.{_<_};
 ghost use Rattle.space.specs.Numbers.{Tells};
 ghost use Rattle.job.specs.Limits.{Acceptable};
@@ -107,14 +107,14 @@ fn is_even(j: Job, s: u8) -> bool
     requires { ⌜ Acceptable j × (s < j .m) ⌝ }
     ensures { λ r. ⌜ Tells (Even j s) r ⌝ }
 {
-    let t = job::stream_at(j, s);
-    let d = t.d;
-    let v = mapping::course::placed(j, d);
-    let g = divisors::divisor::gcd(divisors::divisor::size(v.x1), divisors::divisor::size(v.x2));
-    if g == 0 {
+    let course = mapping::course::course_of(j, s);
+    if course.g == 0 {
         return true;
     }
-    divisors::divisor::size(v.x0) % g == 0
+    let t = job::stream_at(j, s);
+    let d = t.d;
+    let h = j.time;
+    divisors::divisor::size(space::dot(h, d)) % course.g == 0
 }
 
 // The first pair of stream s whose tokens meet.
@@ -126,19 +126,16 @@ fn jam_of(j: Job, s: u8) -> Jam
     if c.g == 0 {
         return Jam::Nowhere;
     }
-    let gap = mapping::walk::link_gap(j, s, c);
-    let Gap::At(y) = gap else {
+    let link = mapping::walk::first_link(j, s, c);
+    let FirstLink::At(found) = link else {
         return Jam::Nowhere;
     };
-    let met = mapping::walk::meeting(j, s, c, y);
-    let Met::Hops(f) = met else {
-        return Jam::Nowhere;
-    };
+    let y = found.gap;
     let p = boxes::start(j.bounds, y);
     let q = space::plus(p, y);
     Jam::At(Clash {
         stream: s,
         pair: Pair { p, q },
-        hops: f,
+        hops: found.hops,
     })
 }

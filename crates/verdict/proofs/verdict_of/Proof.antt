@@ -76,7 +76,7 @@ enum-known-jam c = search needs
 returns-5 : tie.Need-returns-5
 returns-5 c =
     let w = subst (Finds-jams (c .before .before .before .before .before .before .before .before .before .before .before .before .before .before .before .args .j)) (c .before .jam .given .1) (c .before .before .before .jams .ensures) in
-    record { kept = past-crowded (c .before .before .before .before); claim = (w .0, w .1 .0, w .1 .1) }
+    record { kept = past-crowded (c .before .before .before .before); claim = w }
 
 enum-told-4 : tie.Need-enum-told-4
 enum-told-4 c = search needs

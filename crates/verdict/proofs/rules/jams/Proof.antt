@@ -1,14 +1,12 @@
 -- No tokens of a stream before s meet.
 use mathlib.Core.Path.{subst}
-use mathlib.Core.List.{List}
 use Prim.Native.Nat.{ℕ, _-_, _<_, _≤_}
 use native.Mathlib.Omega.{arith}
-use lib.IntN.{ℤ}
 use borrow.Author.Count.{below-more}
 use borrow.Author.Needs.{needs}
 use Rattle.space.specs.Vectors.{entries}
 use Rattle.job.specs.declared.Job.{Job}
-use Rattle.verdict.specs.Rules.{Meeting}
+use Rattle.verdict.specs.Rules.{Clear}
 use Rattle.verdict.specs.Searches.{Finds-jam, Finds-jams}
 use Rattle.verdict.specs.declared.Clash.{Clash}
 use Rattle.verdict.specs.declared.rules.Jam.the-variants as Jam
@@ -16,7 +14,7 @@ use Rattle.verdict.proofs.rules.jams.Statement.{statement}
 use Rattle.verdict.proofs.rules.jams.Tie as tie
 
 abbrev Inv-loop : tie.InvT-loop
-Inv-loop j m s₀ s = (s ≤ m) × ((t : ℕ) → t < s → (p q : List ℤ) (f : ℤ) → Meeting j t p q f → ⊥)
+Inv-loop j m s₀ s = (s ≤ m) × ((t : ℕ) → t < s → Clear j t)
 
 abbrev μ-loop : tie.MeasureT-loop
 μ-loop j m s₀ s = m - s
@@ -31,7 +29,7 @@ enum-known-found : tie.Need-enum-known-found Inv-loop μ-loop
 enum-known-found c = search needs
 
 -- the first stream with a clash
-lowest : (j : Job) (s : ℕ) (clash : Clash) → s < j .m → ((t : ℕ) → t < s → (p q : List ℤ) (f : ℤ) → Meeting j t p q f → ⊥) → Finds-jam j s (Jam.At clash) → Finds-jams j (Jam.At clash)
+lowest : (j : Job) (s : ℕ) (clash : Clash) → s < j .m → ((t : ℕ) → t < s → Clear j t) → Finds-jam j s (Jam.At clash) → Finds-jams j (Jam.At clash)
 lowest j s clash h k w =
     (record { below = rw (w .0) h; broken = λ n. n (entries (clash .pair .p)) (entries (clash .pair .q)) (clash .hops) (w .1 .1); kept = λ t l. k t (rw (w .0) at l) }, w .1)
 

@@ -1,26 +1,20 @@
 -- The walk over the differences: at none of the places passed do two tokens of the stream meet. The measure is what is left of the places.
-use mathlib.Core.Path.{_≡_, subst}
-use mathlib.Core.List.{List}
-use Prim.Native.Nat.{ℕ, _-_, _<_}
+use mathlib.Core.Path.{_≡_, sym, subst}
+use Prim.Native.Nat.{_-_, _<_}
 use native.Mathlib.Omega.{arith}
 use borrow.Author.Needs.{needs}
-use lib.IntN.{ℤ}
 use Rattle.space.specs.Vectors.{entries}
+use Rattle.space.proofs.Machine.{back, in-range}
 use Rattle.boxes.specs.Boxes.{boxOf, countOf, pointOf, PointAt}
-use Rattle.job.specs.declared.Job.{Job}
 use Rattle.mapping.specs.Collisions.{senders}
-use Rattle.mapping.specs.Searches.{Meets}
+use Rattle.mapping.specs.Searches.{Meets, MeetsSome, MetAt}
 use Rattle.mapping.proofs.Fits.{low-sized, high-sized, solid}
-use Rattle.mapping.proofs.Gaps.{gap-sized, gap-in, Spread, spread, Passed, passed-first, passed-more, gap-found, gap-nowhere, met-hops, met-apart}
-use Rattle.mapping.proofs.walk.link_gap.Statement.{statement}
-use Rattle.mapping.proofs.walk.link_gap.Tie as tie
-
--- two tokens whose points are y apart meet
-abbrev Meet : Job → ℕ → List ℤ → Type 0
-Meet j s y = (f : ℤ) × Meets j s y f
+use Rattle.mapping.proofs.Gaps.{gap-sized, gap-in, Spread, spread, Passed, passed-first, passed-more, gap-found, gap-nowhere, met-apart}
+use Rattle.mapping.proofs.walk.first_link.Statement.{statement}
+use Rattle.mapping.proofs.walk.first_link.Tie as tie
 
 abbrev Inv-loop : tie.InvT-loop
-Inv-loop j s c t b n i₀ y₀ i y = Passed (Meet j s) (boxOf b) i × PointAt (boxOf b) i (entries y)
+Inv-loop j s c t b n i₀ y₀ i y = Passed (MeetsSome j s) (boxOf b) i × PointAt (boxOf b) i (entries y)
 
 abbrev μ-loop : tie.MeasureT-loop
 μ-loop j s c t b n i₀ y₀ i y = n - i
@@ -65,14 +59,17 @@ meeting-of-requires c κs =
     let p = c .before .before .before .before .before .before .before .pre in
     (p .0, p .1, p .2, p .3, gap-sized (c .before .before .before .before .before .differences .result) (c .before .loop .i) _ (d .0) (d .1) (below c) (stands c), c .before .before .before .before .before .before .stream-at .ensures)
 
-enum-known--f : tie.Need-enum-known--f Inv-loop μ-loop
-enum-known--f c = c .match .keys1
+enum-known-f : tie.Need-enum-known-f Inv-loop μ-loop
+enum-known-f c = search needs
 
 returns : tie.Need-returns Inv-loop μ-loop
 returns c =
     let s = c .before .before .before .before .before .before .before .before .before .before .before .args in
     let l = c .before .before .before .before in
-    gap-found (Meet (s .j) (s .s)) _ _ (gaps (c .before .before .before .before .before .before .before .before .before)) (l .before .loop .i) (below l) (l .before .loop .inv .0) (l .before .loop .y) (stands l) (met-hops _ _ _ (c .before .before .before .meeting-of .result) (c .before .before .before .meeting-of .ensures) (c .before .before .match .keys1))
+    let met = subst (MetAt (s .j) (s .s) _) (c .before .f .given .1) (c .before .before .before .meeting-of .ensures) in (
+      gap-found (MeetsSome (s .j) (s .s)) _ _ (gaps (c .before .before .before .before .before .before .before .before .before)) (l .before .loop .i) (below l) (l .before .loop .inv .0) (l .before .loop .y) (stands l) (c .before .f .given .0 .0, met),
+      subst (Meets (s .j) (s .s) _) (sym (back (in-range (c .known-told .given .0 .1)))) met,
+    )
 
 enum-told : tie.Need-enum-told Inv-loop μ-loop
 enum-told c = c .match .keys2
@@ -92,10 +89,10 @@ loop-less c = omega arith
 loop-again : tie.Need-loop-again Inv-loop μ-loop
 loop-again c =
     let l = c .before .before .before .before in
-    (passed-more _ _ _ (l .before .loop .inv .0) (subst (λ y. Meet (c .before .before .before .before .before .before .before .before .before .before .before .args .j) (c .before .before .before .before .before .before .before .before .before .before .before .args .s) y → ⊥) (stands l) (met-apart _ _ _ (c .before .before .before .meeting-of .result) (c .before .before .before .meeting-of .ensures) (c .before .before .match .keys2))), c .next .ensures (l .before .loop .i) (stands l))
+    (passed-more _ _ _ (l .before .loop .inv .0) (subst (λ y. MeetsSome (c .before .before .before .before .before .before .before .before .before .before .before .args .j) (c .before .before .before .before .before .before .before .before .before .before .before .args .s) y → ⊥) (stands l) (met-apart _ _ _ (c .before .before .before .meeting-of .result) (c .before .before .before .meeting-of .ensures) (c .before .before .match .keys2))), c .next .ensures (l .before .loop .i) (stands l))
 
 returns-2 : tie.Need-returns-2 Inv-loop μ-loop
 returns-2 c = gap-nowhere _ _ _ (gaps (c .before .before .before .before .before)) (c .before .loop .i) (let e = c .before .before .before .before .count .ensures in omega arith) (c .before .loop .inv .0)
 
-pub link-gap-spec : {M : Type 1} → statement M
-link-gap-spec = tie.close (tie.spec Inv-loop μ-loop stream-at-requires differences-requires count-requires first-place-requires first-gap-requires loop-holds meeting-of-requires enum-known--f returns enum-told next-requires add-i loop-less loop-again returns-2)
+pub first-link-spec : {M : Type 1} → statement M
+first-link-spec = tie.close (tie.spec Inv-loop μ-loop stream-at-requires differences-requires count-requires first-place-requires first-gap-requires loop-holds meeting-of-requires enum-known-f returns enum-told next-requires add-i loop-less loop-again returns-2)
