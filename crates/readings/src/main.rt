@@ -40,81 +40,7 @@ fn thirty() -> [u8; 30] {
     ]
 }
 
-// The longest job, and a byte more: four dimensions, two place rows, four streams.
-fn longest() -> [u8; 69] {
-    [
-        1,
-        0,
-        4,
-        2,
-        4,
-        0,
-        16,
-        0,
-        24,
-        0,
-        56,
-        0,
-        68,
-        0,
-        0,
-        0,
-        0,
-        1,
-        0,
-        1,
-        0,
-        1,
-        255,
-        1,
-        1,
-        0,
-        0,
-        0,
-        0,
-        0,
-        0,
-        0,
-        0,
-        1,
-        0,
-        0,
-        1,
-        1,
-        0,
-        3,
-        0,
-        0,
-        1,
-        0,
-        0,
-        2,
-        1,
-        1,
-        0,
-        0,
-        0,
-        1,
-        0,
-        0,
-        0,
-        0,
-        1,
-        1,
-        1,
-        1,
-        1,
-        0,
-        0,
-        0,
-        0,
-        1,
-        0,
-        127,
-        0,
-    ]
-}
-
+// Writes a text.
 fn say(text: &[u8]) {
     io::write_all(STDOUT_FILENO, text);
 }
@@ -137,6 +63,7 @@ fn front(s: &[u8], n: usize) -> &[u8] {
     s
 }
 
+// A byte as a number that can be printed.
 fn wide(n: u8) -> u64 {
     n as u64
 }
@@ -178,6 +105,7 @@ fn boxed(first: u8, second: u8) -> [u8; 30] {
     s
 }
 
+// Too few bytes and too many.
 fn lengths() {
     let s = thirty();
     tell(b"the 30 bytes", &s);
@@ -185,12 +113,15 @@ fn lengths() {
     tell(b"15 bytes", front(&s, 15));
     tell(b"the header alone", front(&s, 16));
     tell(b"29 bytes", front(&s, 29));
-    let l = longest();
-    tell(b"the longest job, 68 bytes", front(&l, 68));
-    tell(b"with one byte more", &l);
-    tell(b"with one byte less", front(&l, 67));
+    // the longest job, and a byte more: four dimensions, two place rows, four streams
+    let l =
+        b"\x01\0\x04\x02\x04\0\x10\0\x18\0\x38\0\x44\0\0\0\0\x01\0\x01\0\x01\xff\x01\x01\0\0\0\0\0\0\0\0\x01\0\0\x01\x01\0\x03\0\0\x01\0\0\x02\x01\x01\0\0\0\x01\0\0\0\0\x01\x01\x01\x01\x01\0\0\0\0\x01\0\x7f\0";
+    tell(b"the longest job, 68 bytes", front(l, 68));
+    tell(b"with one byte more", l);
+    tell(b"with one byte less", front(l, 67));
 }
 
+// What is wrong in a header.
 fn headers() {
     tell(b"form 0", &changed(0, 0));
     tell(b"form 2", &changed(0, 2));
@@ -212,6 +143,7 @@ fn headers() {
     tell(b"total 30 + 256", &changed(13, 1));
 }
 
+// What is wrong in a box.
 fn bounds() {
     tell(b"bound -128", &changed(16, 128));
     tell(b"bound -127", &changed(16, 129));
@@ -220,6 +152,7 @@ fn bounds() {
     tell(b"0..31 by 0..32", &boxed(31, 32));
 }
 
+// What is wrong in a stream or a row.
 fn streams() {
     tell(b"d (0,2)", &changed(21, 2));
     tell(b"d (0,-1)", &changed(21, 255));
