@@ -4,9 +4,9 @@ use mathlib.Core.Logic.{inl, inr}
 use mathlib.Core.List.{List}
 use mathlib.Core.Option.{Option, none, some}
 use Prim.Native.Nat.{ℕ, _+_, _*_, _<_, _≤_}
-use native.Mathlib.Decide.{ℕ-discrete}
 use native.Mathlib.Omega.{arith}
 use lib.ListN.{length, getD}
+use borrow.Author.Count.{below-more}
 use Rattle.boxes.specs.Boxes.{given}
 use Rattle.job.specs.declared.Job.{Job}
 use Rattle.job.specs.Refusals.{done, check, First}
@@ -50,14 +50,13 @@ pub incoming-same : (j : Job) → Acceptable j → (input got values after : Lis
 incoming-same j a input got values after k u q c lu lq le = incoming-from j a input values after u q lu lq (λ r lr. sym (c .others u r lu (omega arith) (λ x. omega arith)))
 
 pub looped-step : (j : Job) → Acceptable j → (input values got after : List ℕ) (k : ℕ) → LoopedTo j input k values → k < points j → ((s : ℕ) → s < j .m → getD got s 0 ≡ incoming j input values s k) → Column j k got values (j .m) after → LoopedTo j input (k + 1) after
-looped-step j a input values got after k d lk h c = record { size = c .size; each = λ s q ls lq. go s q ls lq (ℕ-discrete q k) }
-  where
-    go : (s q : ℕ) → s < j .m → q < k + 1 → Dec (q ≡ k) → entryFor j after s q ≡ work j s (λ (u : ℕ). incoming j input after u q)
-    go s q ls lq (yes e) =
-        rw e (c .here s ls ∙ same-work j a s ls (λ (u : ℕ). getD got u 0) (λ (u : ℕ). incoming j input after u k) (λ u lu. h u lu ∙ incoming-same j a input got values after k u k c lu lk (omega arith)))
-    go s q ls lq (no ne) =
-        c .others s q ls (omega arith) ne ∙ d .each s q ls (omega arith)
-        ∙ same-work j a s ls (λ (u : ℕ). incoming j input values u q) (λ (u : ℕ). incoming j input after u q) (λ u lu. incoming-same j a input got values after k u q c lu (omega arith) (omega arith))
+looped-step j a input values got after k d lk h c = record {
+  size = c .size;
+  each = λ s q ls lq.
+      below-more (λ (q : ℕ). entryFor j after s q ≡ work j s (λ (u : ℕ). incoming j input after u q)) k
+      (λ q l. c .others s q ls (omega arith) (λ e. omega arith) ∙ d .each s q ls l ∙ same-work j a s ls _ _ (λ u lu. incoming-same j a input got values after k u q c lu (omega arith) (omega arith)))
+      (c .here s ls ∙ same-work j a s ls _ _ (λ u lu. h u lu ∙ incoming-same j a input got values after k u k c lu lk (omega arith))) q lq;
+}
 
 pub looped-end : (j : Job) (input values : List ℕ) (k : ℕ) → LoopedTo j input k values → points j ≤ k → Looped j input values
 looped-end j input values k d le = record { size = d .size; each = λ s q ls lq. d .each s q ls (omega arith) }

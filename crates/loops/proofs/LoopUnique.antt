@@ -11,7 +11,7 @@ use Rattle.job.specs.Limits.{Acceptable}
 use Rattle.job.proofs.Refusing.{first-unique, Passes, first-passes}
 use Rattle.reader.proofs.Theorems.{of-bytes-unique}
 use Rattle.tables.specs.Tables.{points, entryFor}
-use Rattle.loops.specs.Loops.{incoming, Looped, loopChecks, Loops}
+use Rattle.loops.specs.Loops.{Looped, loopChecks, Loops}
 use Rattle.loops.specs.LoopBytes.{LoopsOf}
 use Rattle.loops.specs.declared.Reply.{Reply}
 use Rattle.loops.specs.declared.Reply.the-variants.{Points, Refused}
@@ -27,7 +27,7 @@ module _ (j : Job) (a : Acceptable j) (input v w : List ℕ) (p : Looped j input
   column-same : (k : ℕ) → k < points j → ((r : ℕ) → r < k → Alike r) → Alike k
   column-same k lk h s ls =
       p .each s k ls lk
-      ∙ same-work j a s ls (λ (u : ℕ). incoming j input v u k) (λ (u : ℕ). incoming j input w u k) (λ u lu. incoming-from j a input v w u k lu lk (λ r lr. h r lr u lu))
+      ∙ same-work j a s ls _ _ (λ u lu. incoming-from j a input v w u k lu lk (λ r lr. h r lr u lu))
       ∙ sym (q .each s k ls lk)
 
   -- the columns before k are the same

@@ -11,6 +11,7 @@ use native.Mathlib.Omega.{arith}
 use lib.Arith.{digits-lt}
 use lib.ListN.{length, getD, set, take, drop, length-append, length-drop, length-set}
 use lib.Seq.{length-take-le, take-at, drop-at, drop-drop, getD-take, getD-set-same}
+use borrow.Author.Count.{below-more}
 use borrow.Author.Tests.{eq-eqb, ne-eqb}
 use Rattle.boxes.specs.Boxes.{Box, countOf, given}
 use Rattle.job.specs.declared.Job.{Job}
@@ -193,21 +194,20 @@ module _ (j : Job) (R : Runnable j) (s : ℕ) (h : s < j .m) (b : Band) (B : Ban
     slot-is : t % b .w ≡ t % w j s
     slot-is = ap (λ (i : ℕ). t % i) (B .delay)
 
-    stores-here : (x : ℕ) → x < cells j → held j back s x (t % w j s) ≡ workedOr j t s values (points j) x (arrival j t before s x)
+    -- the band of stream u holds what the tick stores there, and at its other places what it held
+    abbrev Stores : ℕ → Type 0
+    Stores u = (x : ℕ) → x < cells j → held j back u x (t % w j u) ≡ workedOr j t u values (points j) x (arrival j t before u x)
+
+    abbrev Keeps : ℕ → Type 0
+    Keeps u = (x q : ℕ) → x < cells j → q < w j u → (q ≡ t % w j u → ⊥) → held j back u x q ≡ held j before u x q
+
+    stores-here : Stores s
     stores-here x lx =
         now-here x (t % w j s) lx (mod-lt t (delay-some j R s h)) ∙ ap (at (w j s) ys x) (sym slot-is) ∙ p .here x lx
         ∙ ap (workedOr j t s values (points j) x) (ap (λ (l : List ℕ). arrivalIn b (t % b .w) l x) untouched ∙ arrives R h B ea en before t x)
 
-    keeps-here : (x q : ℕ) → x < cells j → q < w j s → (q ≡ t % w j s → ⊥) → held j back s x q ≡ held j before s x q
+    keeps-here : Keeps s
     keeps-here x q lx lq ne = now-here x q lx lq ∙ p .others x q lx lq (λ e. ne (e ∙ slot-is)) ∙ was x q lx lq
-
-    stores-all : (u x : ℕ) → u < s + 1 → x < cells j → Dec (u ≡ s) → held j back u x (t % w j u) ≡ workedOr j t u values (points j) x (arrival j t before u x)
-    stores-all u x lu lx (yes e) = rw e (stores-here x lx)
-    stores-all u x lu lx (no ne) = earlier u x (t % w j u) (omega arith) lx (mod-lt t (delay-some j R u (omega arith))) ∙ d .stores u x (omega arith) lx
-
-    keeps-all : (u x q : ℕ) → u < s + 1 → x < cells j → q < w j u → (q ≡ t % w j u → ⊥) → Dec (u ≡ s) → held j back u x q ≡ held j before u x q
-    keeps-all u x q lu lx lq ne (yes e) = rw e (keeps-here x q lx (rw e at lq) (rw e at ne))
-    keeps-all u x q lu lx lq ne (no other) = earlier u x q (omega arith) lx lq ∙ d .keeps u x q (omega arith) lx lq ne
 
     -- what lies behind it is as before
     beyond-it : drop (a + n * b .w) back ≡ drop (a + n * b .w) before
@@ -220,8 +220,8 @@ module _ (j : Job) (R : Runnable j) (s : ℕ) (h : s < j .m) (b : Band) (B : Ban
       begin = band-next R h B ea en;
       stored = record {
         size = comes-back .size ∙ d .size;
-        stores = λ u x lu lx. stores-all u x lu lx (ℕ-discrete u s);
-        keeps = λ u x q lu lx lq ne. keeps-all u x q lu lx lq ne (ℕ-discrete u s);
+        stores = λ u x lu lx. below-more Stores s (λ u l x lx. earlier u x (t % w j u) l lx (mod-lt t (delay-some j R u (omega arith))) ∙ d .stores u x l lx) stores-here u lu x lx;
+        keeps = λ u x q lu lx lq ne. below-more Keeps s (λ u l x q lx lq ne. earlier u x q l lx lq ∙ d .keeps u x q l lx lq ne) keeps-here u lu x q lx lq ne;
         beyond = rw (← (band-next R h B ea en)) beyond-it;
       };
     }
