@@ -61,8 +61,8 @@ pub fn lacking(j: Job, size: Size, input: usize, values: usize, places: usize) -
     requires { ⌜ Acceptable j ⌝ }
     ensures { λ r. ⌜ Lacks (runChecks j input values places) size r ⌝ }
 {
-    let table = tables::place_in_table(j.m, boxes::count(j.bounds), 0);
-    if (input != table) | (values != table) {
+    let table = tables::size_of(j);
+    if !((input == table) & (values == table)) {
         return Reply::Tables;
     }
     if 8192 < size.room {

@@ -11,7 +11,7 @@ use Rattle.frame.specs.declared.Frame.{Frame}
 use Rattle.tick.specs.Ticks.{Ticked}
 use Rattle.array.specs.Runs.{Ran, cleared}
 use Rattle.array.specs.Runs.Ran.{ready, ticked}
-use Rattle.tick.specs.Steps.{Tabled, Roomy}
+use Rattle.tick.specs.Steps.{Tabled}
 
 -- ---- clearing
 one-more : (i a : ℕ) (ys : List ℕ) → replicate i a ++ (a ∷ ys) ≡ a ∷ (replicate i a ++ ys)
@@ -52,10 +52,6 @@ module _ (j : Job) (f : Frame) (input places₀ values₀ : List ℕ) where
 pub ran-size : {j : Job} {input places values : List ℕ} {n : ℕ} {p v : List ℕ} → Ran j input places values n p v → length v ≡ length values
 ran-size ready = refl
 ran-size (ticked r h) = h .length-values ∙ ran-size r
-
--- places of the same length suffice as well
-pub roomy-as : {j : Job} {before after : List ℕ} → Roomy j before → length after ≡ length before → Roomy j after
-roomy-as r e = record { enough = omega (arith, r .enough, e) }
 
 -- a run from the same places, of as many ticks
 pub ran-as : {j : Job} {input p q values places′ values′ : List ℕ} {n m : ℕ} → p ≡ q → n ≡ m → Ran j input p values n places′ values′ → Ran j input q values m places′ values′

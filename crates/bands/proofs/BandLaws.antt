@@ -10,7 +10,7 @@ use native.Mathlib.Decide.{ℕ-discrete}
 use native.Mathlib.Omega.{arith}
 use lib.Arith.{digits-lt}
 use lib.ListN.{length, set, length-set}
-use lib.Seq.{getD-set-same, getD-set-other}
+use lib.Seq.{getD-set-same}
 use lib.IntN.{ℤ, pos, natAbs, _+ℤ_, _-ℤ_}
 use lib.Signed.{_≤ℤ_, _<ℤ_}
 use Rattle.space.specs.Numbers.{steps}
@@ -19,12 +19,13 @@ use Rattle.space.specs.Order.{Before, AtMost}
 use Rattle.boxes.specs.Boxes.{Box, Side, side, In, across, countOf, placeOf, pointOf, backOf, given}
 use Rattle.space.proofs.Parts.{int, sum, difference, magnitude}
 use Rattle.space.proofs.Ints.{trichotomy}
+use Rattle.space.proofs.VectorLaws.{two}
 use Rattle.boxes.proofs.BoxLaws.{point-in, place-point, before-place}
 use Rattle.boxes.proofs.BackLaws.{back-some, back-below}
 use Rattle.bands.specs.declared.Band.{Band}
 use Rattle.bands.specs.Bands.{rectangleOf, hopOf, at, arrivalIn, Lent, Shifted}
 use Rattle.bands.specs.Turns.{turnOf}
-use Rattle.space.proofs.Rows.{spots, rows-same}
+use Rattle.space.proofs.Rows.{other-spot, rows-same}
 
 -- ---- two sides
 -- how many columns there are
@@ -56,10 +57,7 @@ lower x y a b (inr h) = by (h .0) (h .1) (trichotomy (pos 0) b)
   where
     by : a ≡ pos 0 → pos 0 ≤ℤ b → (pos 0 <ℤ b) ⊎ ((pos 0 ≡ b) ⊎ (b <ℤ pos 0)) → AtMost (minusOf (x ∷ y ∷ []) (a ∷ b ∷ [])) (x ∷ y ∷ [])
     by e g (inl f) = inl (inr (omega (int, difference x a), inl (omega (int, difference y b))))
-    by e g (inr (inl f)) = inr (same (omega (int, difference x a)) (omega (int, difference y b)))
-      where
-        same : {p q r t : ℤ} → p ≡ r → q ≡ t → _≡_ {A = List ℤ} (p ∷ q ∷ []) (r ∷ t ∷ [])
-        same e f = cc
+    by e g (inr (inl f)) = inr (two (omega (int, difference x a)) (omega (int, difference y b)))
     by e g (inr (inr f)) = absurd (omega int)
 
 -- the point one hop back stands after this one
@@ -109,6 +107,10 @@ late b true o x y lx e = omega (arith, o .0 refl x y lx e)
 late b false o x y lx e = o .1 refl x y lx e
 
 -- ---- places
+-- places of the same length are lent as well
+pub lent-as : {b : Band} {slot : ℕ} {before after : List ℕ} → Lent b slot before → length after ≡ length before → Lent b slot after
+lent-as l e = record { shaped = l .shaped; inside = l .inside; size = e ∙ l .size; few = l .few }
+
 -- place slot of a cell is among the places, and they are few
 pub its-place : {b : Band} {slot : ℕ} {places : List ℕ} → Lent b slot places → (x : ℕ) → x < countOf (rectangleOf b) → (x * b .w + slot < length places) × (x * b .w + slot < 8192)
 its-place {b} {slot} {places} l x lx =
@@ -153,7 +155,7 @@ module _ (b : Band) (slot : ℕ) (down : Bool) (before : List ℕ) where
       its-turn = ap (turnOf down n) ex ∙ turn-turn down n k lk
 
       away : (y r : ℕ) → r < b .w → (y ≡ x → r ≡ slot → ⊥) → at (b .w) (set after (x * b .w + slot) v) y r ≡ at (b .w) after y r
-      away y r lr ne = getD-set-other after (x * b .w + slot) (y * b .w + r) v 0 (λ e. let s = spots (b .w) x y slot r (l .inside) lr e in ne (s .0) (s .1))
+      away y r lr = other-spot (b .w) x y slot r v after (l .inside) lr
 
       still : (y : ℕ) → k + 1 ≤ turnOf down n y → y ≡ x → ⊥
       still y h e = omega (arith, ap (turnOf down n) e, its-turn)

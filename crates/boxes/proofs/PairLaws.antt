@@ -1,5 +1,5 @@
 -- Pairs of points of a box, by their difference y: the differences are themselves a box, and the least p with p and p + y in the box is known entry by entry.
-use mathlib.Core.Path.{_≡_, refl, sym, ap, ap₂, _∙_}
+use mathlib.Core.Path.{_≡_, refl, ap, ap₂, _∙_}
 use Prim.Native.Nat.{ℕ, suc, _+_}
 use mathlib.Core.Logic.{_⊎_, inl, inr}
 use mathlib.Core.Bool.{Bool, true, false, cond}
@@ -17,7 +17,7 @@ use Rattle.space.proofs.Parts.{int, sum, difference}
 use Rattle.space.proofs.Ints.{≤ℤ-or-<, ≤ℤ-antisymm, minus-size}
 use Rattle.space.proofs.Machine.{lt-true, lt-false}
 use Rattle.space.proofs.VectorLaws.{four, unfour}
-use Rattle.space.proofs.OrderLaws.{before-irreflexive, before-trans}
+use Rattle.space.proofs.OrderLaws.{at-most-both}
 use Rattle.boxes.proofs.BoxLaws.{in-length, SidesSized, sides-sized, in-sized}
 
 -- ---- the greater of two numbers is over both, and under what is over both
@@ -154,9 +154,4 @@ apart-sized {b} a y p q h = in-sized (b + b) (spread (boxOf a)) y (twice (boxOf 
 
 -- there is one least point that y leads from
 pub start-unique : (B : Box) (y p q : List ℤ) → In B p → In B (plusOf p y) → ((r : List ℤ) → In B r → In B (plusOf r y) → AtMost p r) → In B q → In B (plusOf q y) → ((r : List ℤ) → In B r → In B (plusOf r y) → AtMost q r) → p ≡ q
-start-unique B y p q ip jp lp iq jq lq = by (lp q iq jq) (lq p ip jp)
-  where
-    by : AtMost p q → AtMost q p → p ≡ q
-    by (inr e) k = e
-    by (inl h) (inr e) = sym e
-    by (inl h) (inl k) = absurd (before-irreflexive p (before-trans p q p h k))
+start-unique B y p q ip jp lp iq jq lq = at-most-both p q (lp q iq jq) (lq p ip jp)

@@ -9,6 +9,7 @@ use Rattle.job.specs.declared.Job.{Job}
 use Rattle.verdict.specs.Replies.{Says}
 use Rattle.verdict.specs.declared.Size.{Size}
 use Rattle.verdict.specs.declared.Verdict.the-variants.{Accepted}
+use Rattle.verdict.proofs.Accepted.{accepted-limits}
 use Rattle.tables.specs.Tables.{points, entryFor}
 use Rattle.loops.specs.Loops.{Looped, incoming as loopIncoming}
 use Rattle.mapping.specs.Frames.{cells, ticks, tickOf, cellOf, held}
@@ -17,7 +18,6 @@ use Rattle.array.specs.Runs.{Ran}
 use Rattle.frame.proofs.FrameLaws.{tick-below, cell-below}
 use Rattle.demand.specs.Machine.{incoming, taken}
 use Rattle.demand.proofs.Mapped as Core
-use Rattle.demand.specs.Rules.{Obeys}
 use Rattle.demand.proofs.Rules.{rules-kept}
 use Rattle.demand.proofs.Scans.{point-only}
 use Rattle.demand.specs.Instances.{machine, nest}
@@ -27,10 +27,6 @@ use Rattle.tables.proofs.TableLaws.{tables-same}
 use Rattle.array.proofs.RunLaws.{ran-size}
 
 module _ (j : Job) (z : Size) (says : Says j (Accepted z)) where
-  -- the rules that the verdict found kept
-  rules : Obeys j
-  rules = rules-kept j z says
-
   -- what the array leaves in the value table is what the loop leaves there
   pub demand-3 : (input places values places′ values′ looped : List ℕ) → length values ≡ j .m * points j → Ran j input places values (ticks j) places′ values′ → Looped j input looped → values′ ≡ looped
   demand-3 input places values places′ values′ looped size ran loop =
@@ -42,7 +38,7 @@ module _ (j : Job) (z : Size) (says : Says j (Accepted z)) where
       entry : (s k : ℕ) → s < j .m → k < points j → entryFor j values′ s k ≡ entryFor j looped s k
       entry s k ls lk =
           ap (λ (v : List ℕ). entryFor j v s k) (sym (steps .last-table))
-          ∙ Core.array-is-loop (machine j input) (nest j input) (job-mapped j rules input) (run-of j input steps) (entryFor j looped) (loop-solves j input looped loop) s k ls lk (tick-below j (rules .limits) k lk)
+          ∙ Core.array-is-loop (machine j input) (nest j input) (job-mapped j (rules-kept j z says) input) (run-of j input steps) (entryFor j looped) (loop-solves j input looped loop) s k ls lk (tick-below j (accepted-limits says) k lk)
 
   -- what comes in at the point at place k, in its tick at its cell, from the places as the ticks before leave them, is what the loop takes in there
   pub demand-3-incoming : (input places values looped : List ℕ) → Looped j input looped → (s k : ℕ) → s < j .m → k < points j → (places′ values′ : List ℕ) → Ran j input places values (tickOf j k) places′ values′ → arrayIncoming j input (tickOf j k) places′ s (cellOf j k) k ≡ loopIncoming j input looped s k
@@ -54,17 +50,17 @@ module _ (j : Job) (z : Size) (says : Says j (Accepted z)) where
 
       there : incoming (machine j input) (tickOf j k) (held j (steps .rooms (tickOf j k))) s (cellOf j k) k ≡ taken (machine j input) (nest j input) (entryFor j looped) s k
       there =
-          Core.incoming-is-loop (machine j input) (nest j input) (job-mapped j rules input) (run-of j input steps) (entryFor j looped) (loop-solves j input looped loop) s k ls (lk, omega arith)
+          Core.incoming-is-loop (machine j input) (nest j input) (job-mapped j (rules-kept j z says) input) (run-of j input steps) (entryFor j looped) (loop-solves j input looped loop) s k ls (lk, omega arith)
 
   -- and the run comes to those places, before the tick of every point
   pub demand-3-reached : (input places values places′ values′ : List ℕ) → Ran j input places values (ticks j) places′ values′ → (k : ℕ) → k < points j → (p v : List ℕ) × Ran j input places values (tickOf j k) p v
-  demand-3-reached input places values places′ values′ ran k lk = let h = tick-below j (rules .limits) k lk in ran-through j input places values (tickOf j k) (ticks j) places′ values′ (omega arith) ran
+  demand-3-reached input places values places′ values′ ran k lk = let h = tick-below j (accepted-limits says) k lk in ran-through j input places values (tickOf j k) (ticks j) places′ values′ (omega arith) ran
 
   -- each point is worked within the run, in one tick at one cell
   pub worked-once : (k : ℕ) → k < points j → (tickOf j k < ticks j) × (cellOf j k < cells j) × (pointAt j (tickOf j k) (cellOf j k) ≡ some k) × ((t x : ℕ) → pointAt j t x ≡ some k → (t ≡ tickOf j k) × (x ≡ cellOf j k))
   worked-once k lk =
-      let h = Core.worked-once (machine j []) (nest j []) (job-mapped j rules []) k lk in
-      (tick-below j (rules .limits) k lk, cell-below j (rules .limits) k lk, h .0, h .1)
+      let h = Core.worked-once (machine j []) (nest j []) (job-mapped j (rules-kept j z says) []) k lk in
+      (tick-below j (accepted-limits says) k lk, cell-below j (accepted-limits says) k lk, h .0, h .1)
 
   -- and nothing else is worked
   pub worked-all : (t x k : ℕ) → pointAt j t x ≡ some k → k < points j

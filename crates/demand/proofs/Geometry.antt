@@ -1,7 +1,7 @@
 -- Where the points of an accepted job go: the ticks and cells of i - d and i, the cells between them, and, by the link rule, that no other token is on them.
 use mathlib.Core.Path.{_≡_, refl, sym, ap, ap₂, subst, _∙_}
 use mathlib.Core.Logic.{_⊎_, inl, inr}
-use mathlib.Core.List.{List, [], _∷_}
+use mathlib.Core.List.{List}
 use mathlib.Core.Option.{some}
 use Prim.Native.Nat.{ℕ, zero, suc, _+_, _*_, _≤_, _<_}
 use native.Mathlib.Nat.{mul-le-mul-right}
@@ -13,7 +13,7 @@ use Rattle.space.specs.Order.{Before}
 use Rattle.boxes.specs.Boxes.{In, placeOf, pointOf, backOf}
 use Rattle.space.proofs.Parts.{int, sum, difference, product, parts, ring⊖, int⊖}
 use Rattle.space.proofs.Ints.{natAbs-neg, natAbs-*}
-use Rattle.space.proofs.VectorLaws.{dot-minus, dot-times, minus-plus, times-length}
+use Rattle.space.proofs.VectorLaws.{dot-minus, dot-times, minus-plus, times-length, two}
 use Rattle.space.proofs.OrderLaws.{before-total}
 use Rattle.boxes.proofs.BoxLaws.{in-length, point-in, place-point, point-place, place-injective, steps-back, convex}
 use Rattle.boxes.proofs.BackLaws.{back-some, back-here, back-below}
@@ -42,7 +42,7 @@ laneOf j s p f = placeOf (rectangle j) (laneAt j s p f)
 -- the place of a difference is the difference of the places
 place-minus : (j : Job) (x y : List ℤ) → length x ≡ length y → S j (minusOf x y) ≡ minusOf (S j x) (S j y)
 unfolding minusOf
-place-minus j x y e = ap₂ (λ (a b : ℤ). a ∷ b ∷ []) (dot-minus (entries (j .row0)) x y e) (dot-minus (entries (j .row1)) x y e)
+place-minus j x y e = two (dot-minus (entries (j .row0)) x y e) (dot-minus (entries (j .row1)) x y e)
 
 module _ (j : Job) (rules : Obeys j) where
   -- ---- ticks and cells of points

@@ -7,8 +7,8 @@ use native.Mathlib.Omega.{arith}
 use lib.ListN.{length}
 use Rattle.job.specs.declared.Job.{Job}
 use Rattle.job.specs.Refusals.{First}
-use Rattle.job.specs.Limits.{limits, Acceptable}
-use Rattle.job.proofs.Refusing.{Passes, first-unique, first-passes}
+use Rattle.job.specs.Limits.{Acceptable}
+use Rattle.job.proofs.Refusing.{first-unique}
 use Rattle.reader.specs.Reading.{Reads}
 use Rattle.reader.specs.declared.Reply.the-variants as Read
 use Rattle.reader.proofs.Theorems.{of-bytes-job}
@@ -18,34 +18,29 @@ use Rattle.loops.specs.Loops.{loopChecks, Loops}
 use Rattle.loops.specs.LoopBytes.{LoopsOf}
 use Rattle.loops.specs.declared.Reply.{Reply as Answer}
 use Rattle.loops.specs.declared.Reply.the-variants.{Points, Refused}
-use Rattle.answers.specs.Answers.{runChecks}
+use Rattle.verdict.proofs.Accepted.{accepted-limits}
+use Rattle.answers.proofs.AnswerLaws.{passed}
 use Rattle.array.specs.Runs.{Runs, RepliesOf}
 use Rattle.answers.specs.declared.Reply.{Reply}
 use Rattle.answers.specs.declared.Reply.the-variants as Array
-use Rattle.demand.proofs.Rules.{rules-kept}
 use Rattle.demand.proofs.Demand.{demand-3}
 
 -- ---- of a record
 module _ (j : Job) (input values places values′ places′ : List ℕ) (n : ℕ) (run : Runs j input values places values′ places′ (Array.Ticks n)) where
-  -- a run that answers a tick count has passed its checks
-  passed : Passes (runChecks j (length input) (length values) (length places) (run .0))
-  passed = first-passes (runChecks j (length input) (length values) (length places) (run .0)) ((λ e. omega arith), ((λ e. omega arith), ((λ e. omega arith), tt))) (run .1 .first)
-
-  -- so its tables are m × points long
+  -- a run that answers a tick count has passed its checks: its tables are m × points long
   input-size : length input ≡ j .m * points j
-  input-size = passed .0 .0
+  input-size = passed j _ _ _ (run .0) (run .1 .first) .0
 
   pub values-size : length values ≡ j .m * points j
-  values-size = passed .0 .1
+  values-size = passed j _ _ _ (run .0) (run .1 .first) .1
 
   -- and its job is within the limits
   within : Acceptable j
-  within = rules-kept j (run .0) (run .1 .accepted) .limits
+  within = accepted-limits (run .1 .accepted)
 
   -- so the loop, with a value table so long, refuses nothing
   loop-passes : (before : List ℕ) → length before ≡ j .m * points j → First (loopChecks j input before) 0
-  loop-passes before size =
-      tables-taken j input before within input-size size
+  loop-passes before size = tables-taken j input before within (input-size, size)
 
   -- A run that answers a tick count leaves in the value table exactly what the loop on the same job and the same input leaves there, whatever stood in the two tables before;
   -- and the loop then answers the point count.

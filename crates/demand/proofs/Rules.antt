@@ -2,14 +2,12 @@
 use mathlib.Core.Path.{_≡_, refl, subst, _∙_}
 use mathlib.Core.List.{List}
 use Prim.Native.Nat.{ℕ, zero, suc, _*_, _≤_, _<_, _∣_}
-use native.Mathlib.Nat.{one-dvd}
+use native.Mathlib.Nat.{one-dvd, pos-of-ne-zero}
 use native.Mathlib.Omega.{arith}
-use lib.IntN.{ℤ, pos, negsuc, natAbs, _*ℤ_}
-use lib.Signed.{_≤ℤ_, quotZ}
-use Rattle.space.specs.Numbers.{up}
+use lib.IntN.{ℤ, pos, natAbs, _*ℤ_}
 use Rattle.space.specs.Vectors.{minusOf}
 use Rattle.space.proofs.Parts.{int, product}
-use Rattle.space.proofs.Ints.{dvd-whole}
+use Rattle.space.proofs.Ints.{quot-up, dvd-whole}
 use Rattle.job.specs.declared.Job.{Job}
 use Rattle.mapping.specs.Mapping.{stream, along, H, g, orOne, hops, delay}
 use Rattle.mapping.specs.Collisions.{Collide}
@@ -18,6 +16,7 @@ use Rattle.verdict.specs.Replies.{Says}
 use Rattle.verdict.specs.declared.Size.{Size}
 use Rattle.verdict.specs.declared.Verdict.the-variants.{Accepted}
 use Rattle.mapping.specs.Frames.{w}
+use Rattle.tick.proofs.RoomLaws.{w-positive}
 use Rattle.demand.specs.Rules.{Moving, HopsApart, Obeys}
 
 module _ (j : Job) (z : Size) (y : Says j (Accepted z)) where
@@ -40,11 +39,7 @@ module _ (j : Job) (z : Size) (y : Says j (Accepted z)) where
 module _ (j : Job) (rules : Obeys j) (s : ℕ) (ls : s < j .m) where
   -- the hops are at least one
   pub hops-low : 1 ≤ hops j s
-  hops-low = by (hops j s) (hops-some j s)
-    where
-      by : (n : ℕ) → (n ≡ 0 → ⊥) → 1 ≤ n
-      by zero h = absurd (h refl)
-      by (suc n) h = omega arith
+  hops-low = pos-of-ne-zero (hops-some j s)
 
   -- the hops divide Hd: by the hop rule where the stream moves, and being 1 where it does not
   hops-even : hops j s ∣ natAbs (H j (along j s))
@@ -56,11 +51,7 @@ module _ (j : Job) (rules : Obeys j) (s : ℕ) (ls : s < j .m) where
 
   -- w is not negative, since Hd is not
   pub delay-is : delay j s ≡ pos (w j s)
-  delay-is = let a = rules .precedence s ls in quotient (H j (along j s)) (hops j s) (omega int)
-    where
-      quotient : (z : ℤ) (n : ℕ) → pos 0 ≤ℤ z → quotZ z (pos n) ≡ pos (up (quotZ z (pos n)))
-      quotient (pos a) n h = refl
-      quotient (negsuc a) n h = absurd (omega int)
+  delay-is = let a = rules .precedence s ls in quot-up (H j (along j s)) (hops j s) (omega int)
 
   -- so many hops of w ticks each take the time Hd
   pub time-whole : H j (along j s) ≡ pos (hops j s * w j s)
@@ -74,8 +65,4 @@ module _ (j : Job) (rules : Obeys j) (s : ℕ) (ls : s < j .m) where
 
   -- a hop takes time: else Hd is 0, against precedence
   pub delay-low : 1 ≤ w j s
-  delay-low = let e = time-whole in let a = rules .precedence s ls in by (w j s) (omega int)
-    where
-      by : (n : ℕ) → 1 ≤ hops j s * n → 1 ≤ n
-      by zero h = absurd (omega arith)
-      by (suc n) h = omega arith
+  delay-low = w-positive j s (rules .precedence s ls) (rules .hop s ls)

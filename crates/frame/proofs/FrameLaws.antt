@@ -3,18 +3,19 @@ use mathlib.Core.Path.{_≡_, refl, sym, subst, _∙_}
 use mathlib.Core.List.{List}
 use Prim.Native.Nat.{ℕ, _+_, _*_, _<_, _≤_}
 use native.Mathlib.Nat.{mul-le-mul, mul-one, add-zero, le-trans, le-of-eq}
-use native.Mathlib.Decide.{ℕ-discrete, decLe}
+use native.Mathlib.Decide.{decLe}
 use native.Mathlib.Omega.{arith}
 use lib.ListN.{length, getD, set, length-set}
 use lib.Seq.{getD-set-same, getD-set-other, ext-getD}
 use lib.IntN.{ℤ}
 use lib.Signed.{_≤ℤ_}
+use borrow.Author.Count.{below-more}
 use Rattle.space.specs.Numbers.{Size, limit, entry, coordinate, steps}
 use Rattle.space.specs.Vectors.{entries, dotOf, Sized}
 use Rattle.boxes.specs.Boxes.{In, Solid, across, countOf, placeOf, pointOf, leastOf, greatestOf, Least, Greatest, reach}
 use Rattle.space.proofs.Ints.{size-up}
 use Rattle.space.proofs.Machine.{held, as-held}
-use Rattle.boxes.proofs.BoxLaws.{in-sized, point-in, place-below, steps-below, sides-sized}
+use Rattle.boxes.proofs.BoxLaws.{in-solid, solid-in, in-sized, point-in, place-below, steps-below, sides-sized}
 use Rattle.boxes.proofs.ExtremeLaws.{least-is, greatest-is}
 use Rattle.space.proofs.VectorLaws.{sized-up, dot-size}
 use Rattle.job.specs.declared.Job.{Job}
@@ -73,13 +74,7 @@ module _ (j : Job) (a : Acceptable j) where
 
   -- the rectangle has two ends in each direction
   pub rectangle-solid : Solid (rectangle j)
-  unfolding Solid
-  rectangle-solid =
-      let r = row-least (entries (j .row0)) refl in
-      let q = row-least (entries (j .row1)) refl in
-      let g = row-greatest (entries (j .row0)) refl in
-      let h = row-greatest (entries (j .row1)) refl in
-      (subst (λ (z : ℤ). leastOf (entries (j .row0)) (box j) ≤ℤ z) (g .met .2) (r .below (g .met .0) (g .met .1)), (subst (λ (z : ℤ). leastOf (entries (j .row1)) (box j) ≤ℤ z) (h .met .2) (q .below (h .met .0) (h .met .1)), tt))
+  rectangle-solid = in-solid (rectangle j) _ (in-rectangle _ (solid-in (box j) (solid j a)))
 
   -- ---- the points are small
   pub point-sized : (k : ℕ) → k < points j → Sized coordinate (pointOf (box j) k)
@@ -100,11 +95,10 @@ module _ (j : Job) (a : Acceptable j) where
 -- ---- the timetable
 -- one more tick is written
 pub timed-step : {j : Job} {k v : ℕ} {l : List ℕ} → Timed j k l → k < points j → v ≡ tickOf j k → Timed j (k + 1) (set l k v)
-timed-step {j} {k} {v} {l} T h e = record { size = rw (length-set l k v) (T .size); ticks = λ i li. here i li (ℕ-discrete i k) }
-  where
-    here : (i : ℕ) → i < k + 1 → Dec (i ≡ k) → getD (set l k v) i 0 ≡ tickOf j i
-    here i li (yes d) = rw d (getD-set-same l k v 0 (omega (arith, T .size)) ∙ e)
-    here i li (no ne) = getD-set-other l k i v 0 ne ∙ T .ticks i (omega arith)
+timed-step {j} {k} {v} {l} T h e = record {
+  size = rw (length-set l k v) (T .size);
+  ticks = below-more (λ (i : ℕ). getD (set l k v) i 0 ≡ tickOf j i) k (λ i li. getD-set-other l k i v 0 (λ e. omega arith) ∙ T .ticks i li) (getD-set-same l k v 0 (omega (arith, T .size)) ∙ e);
+}
 
 -- one timetable has every tick, and behind them what it had
 pub timetable-unique : (j : Job) (before v w : List ℕ) → Timed j (points j) v → Timed j (points j) w → length v ≡ length before → length w ≡ length before → ((i : ℕ) → points j ≤ i → getD v i 0 ≡ getD before i 0) → ((i : ℕ) → points j ≤ i → getD w i 0 ≡ getD before i 0) → v ≡ w

@@ -1,9 +1,8 @@
 -- Two replies of a look-up that meet one statement are equal, on a job and on bytes.
 use mathlib.Core.Path.{_≡_, refl, sym, ap, _∙_}
 use mathlib.Core.List.{List}
-use mathlib.Core.Option.{Option, none, some}
+use mathlib.Core.Option.{Option·some-injective, Option·some-ne-none}
 use Prim.Native.Nat.{ℕ}
-use native.Mathlib.Omega.{arith}
 use Rattle.boxes.specs.Boxes.{pointOf}
 use Rattle.space.proofs.VectorLaws.{vector-of}
 use Rattle.job.specs.declared.Job.{Job}
@@ -15,20 +14,12 @@ use Rattle.lookup.specs.declared.Worked.{Worked}
 use Rattle.lookup.specs.declared.Worked.the-variants as Look
 use Rattle.lookup.specs.Lookups.{Looks, LooksOf}
 
--- something is not nothing
-clash : {k : ℕ} {o : Option ℕ} → o ≡ some k → o ≡ none → ⊥
-clash p q = let z : _≡_ {A = ℕ} 0 1 = cc in omega arith
-
--- it is one number
-same-some : {k n : ℕ} {o : Option ℕ} → o ≡ some k → o ≡ some n → k ≡ n
-same-some p q = cc
-
 -- at most one reply of a look-up is right
 pub looks-unique : (j : Job) (t x : ℕ) (r r′ : Worked) → Looks j t x r → Looks j t x r′ → r ≡ r′
-looks-unique j t x (Look.At u) (Look.At v) a b = ap Look.At (vector-of (a .2 .2 ∙ ap (pointOf (box j)) (same-some (a .2 .1) (b .2 .1)) ∙ sym (b .2 .2)))
-looks-unique j t x (Look.At u) Look.Nowhere a b = absurd (clash (a .2 .1) (b .2))
+looks-unique j t x (Look.At u) (Look.At v) a b = ap Look.At (vector-of (a .2 .2 ∙ ap (pointOf (box j)) (Option·some-injective _ _ (sym (a .2 .1) ∙ b .2 .1)) ∙ sym (b .2 .2)))
+looks-unique j t x (Look.At u) Look.Nowhere a b = absurd (Option·some-ne-none _ (sym (a .2 .1) ∙ b .2))
 looks-unique j t x (Look.At u) (Look.Refused v) a b = absurd (no-refusal j (a .0) v (a .1) (b .0) (b .1))
-looks-unique j t x Look.Nowhere (Look.At u) a b = absurd (clash (b .2 .1) (a .2))
+looks-unique j t x Look.Nowhere (Look.At u) a b = absurd (Option·some-ne-none _ (sym (b .2 .1) ∙ a .2))
 looks-unique j t x Look.Nowhere Look.Nowhere a b = refl
 looks-unique j t x Look.Nowhere (Look.Refused v) a b = absurd (no-refusal j (a .0) v (a .1) (b .0) (b .1))
 looks-unique j t x (Look.Refused u) (Look.At v) a b = absurd (no-refusal j (b .0) u (b .1) (a .0) (a .1))

@@ -1,56 +1,43 @@
 -- The loop has one result: at most one table keeps the loop's equation, and at most one reply with one table is right.
-use mathlib.Core.Path.{_≡_, refl, sym, ap, _∙_}
+use mathlib.Core.Path.{_≡_, sym, ap, _∙_}
 use mathlib.Core.List.{List}
-use mathlib.Core.Option.{Option, none, some}
 use Prim.Native.Nat.{ℕ, zero, suc, _<_, _≤_}
-use native.Mathlib.Decide.{ℕ-discrete}
+use native.Mathlib.Nat.{le-of-suc-le}
 use native.Mathlib.Omega.{arith}
-use Rattle.boxes.specs.Boxes.{given}
+use borrow.Author.Count.{below-none, below-more}
 use Rattle.job.specs.declared.Job.{Job}
 use Rattle.job.specs.Refusals.{First}
 use Rattle.job.specs.Limits.{Acceptable}
 use Rattle.job.proofs.Refusing.{first-unique, Passes, first-passes}
 use Rattle.reader.proofs.Theorems.{of-bytes-unique}
-use Rattle.tables.specs.Tables.{points, entryFor, previous}
-use Rattle.loops.specs.Loops.{incoming, Looped, loopChecks, Loops}
+use Rattle.tables.specs.Tables.{points, entryFor}
+use Rattle.loops.specs.Loops.{Looped, loopChecks, Loops}
 use Rattle.loops.specs.LoopBytes.{LoopsOf}
 use Rattle.loops.specs.declared.Reply.{Reply}
 use Rattle.loops.specs.declared.Reply.the-variants.{Points, Refused}
-use Rattle.tables.proofs.TableLaws.{previous-before, same-work, tables-same}
+use Rattle.loops.proofs.LoopLaws.{incoming-from}
+use Rattle.tables.proofs.TableLaws.{same-work, tables-same}
 
-module _ (j : Job) (a : Acceptable j) (input v w : List ℕ) where
-  -- what comes in is the same where the columns before are
-  pub incoming-from : (u k : ℕ) → u < j .m → k < points j → ((q : ℕ) → q < k → entryFor j v u q ≡ entryFor j w u q) → incoming j input v u k ≡ incoming j input w u k
-  unfolding incoming
-  incoming-from u k lu lk h = by (previous j u k) refl
-    where
-      by : (o : Option ℕ) → previous j u k ≡ o → given o (entryFor j input u k) (entryFor j v u) ≡ given o (entryFor j input u k) (entryFor j w u)
-      by none e = refl
-      by (some q) e = h q (previous-before j a u k q lu lk e)
+module _ (j : Job) (a : Acceptable j) (input v w : List ℕ) (p : Looped j input v) (q : Looped j input w) where
+  -- column k is the same in both
+  abbrev Alike : ℕ → Type 0
+  Alike k = (s : ℕ) → s < j .m → entryFor j v s k ≡ entryFor j w s k
 
-  module _ (p : Looped j input v) (q : Looped j input w) where
-    -- one column more
-    column-same : (k s : ℕ) → s < j .m → k < points j → ((u r : ℕ) → u < j .m → r < k → entryFor j v u r ≡ entryFor j w u r) → entryFor j v s k ≡ entryFor j w s k
-    column-same k s ls lk h =
-        p .each s k ls lk
-        ∙ same-work j a s ls (λ (u : ℕ). incoming j input v u k) (λ (u : ℕ). incoming j input w u k) (λ u lu. incoming-from u k lu lk (λ r lr. h u r lu lr))
-        ∙ sym (q .each s k ls lk)
+  -- one column more
+  column-same : (k : ℕ) → k < points j → ((r : ℕ) → r < k → Alike r) → Alike k
+  column-same k lk h s ls =
+      p .each s k ls lk
+      ∙ same-work j a s ls _ _ (λ u lu. incoming-from j a input v w u k lu lk (λ r lr. h r lr u lu))
+      ∙ sym (q .each s k ls lk)
 
-    one-more : (k s r : ℕ) → s < j .m → r < suc k → k < points j → ((u r : ℕ) → u < j .m → r < k → entryFor j v u r ≡ entryFor j w u r) → Dec (r ≡ k) → entryFor j v s r ≡ entryFor j w s r
-    one-more k s r ls lr lk h (yes e) = rw e (column-same k s ls lk h)
-    one-more k s r ls lr lk h (no ne) = h s r ls (omega arith)
+  -- the columns before k are the same
+  columns-same : (k : ℕ) → k ≤ points j → (r : ℕ) → r < k → Alike r
+  columns-same zero lk r lr = below-none Alike r lr
+  columns-same (suc k) lk r lr = let h = columns-same k (le-of-suc-le lk) in below-more Alike k h (column-same k lk h) r (omega arith)
 
-    -- the columns before k are the same
-    columns-same : (k : ℕ) → k ≤ points j → (s r : ℕ) → s < j .m → r < k → entryFor j v s r ≡ entryFor j w s r
-    columns-same zero lk s r ls lr = absurd (omega arith)
-    columns-same (suc k) lk s r ls lr = one-more k s r ls lr lk (columns-same k (less lk)) (ℕ-discrete r k)
-      where
-        less : {a b : ℕ} → suc a ≤ b → a ≤ b
-        less h = omega arith
-
-    -- at most one table keeps the loop's equation
-    pub looped-unique : v ≡ w
-    looped-unique = tables-same j v w (p .size) (q .size) (λ s k ls lk. columns-same (points j) (omega arith) s k ls lk)
+  -- at most one table keeps the loop's equation
+  pub looped-unique : v ≡ w
+  looped-unique = tables-same j v w (p .size) (q .size) (λ s k ls lk. columns-same (points j) (omega arith) k lk s ls)
 
 -- a job whose tables are taken is acceptable
 taken : (j : Job) (input values : List ℕ) → First (loopChecks j input values) 0 → Acceptable j

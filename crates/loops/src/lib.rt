@@ -26,14 +26,11 @@ pub fn loop_of(j: Job, input: &[u32], values: &mut [u32]) -> Reply
     if number != 0 {
         return Reply::Refused(number);
     }
+    let size = tables::size_of(j);
+    if !((input.len() == size) & (values.len() == size)) {
+        return Reply::Refused(13);
+    }
     let points = boxes::count(j.bounds);
-    let size = tables::place_in_table(j.m, points, 0);
-    if input.len() != size {
-        return Reply::Refused(13);
-    }
-    if values.len() != size {
-        return Reply::Refused(13);
-    }
     fill(j, input, &mut values[..], points);
     Reply::Points(points)
 }

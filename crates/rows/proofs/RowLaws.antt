@@ -1,5 +1,5 @@
 -- Where a row stands in its table, when there is none, and that there is one answer.
-use mathlib.Core.Path.{_≡_, refl, sym, ap, _∙_}
+use mathlib.Core.Path.{_≡_, refl, sym, _∙_}
 use mathlib.Core.Logic.{inl, inr}
 use mathlib.Core.List.{List, []}
 use Prim.Native.Nat.{ℕ, _+_, _*_, _-_, _<_, _≤_}
@@ -14,25 +14,18 @@ use Rattle.reader.proofs.Theorems.{of-bytes-unique}
 use Rattle.tables.specs.Tables.{points}
 use Rattle.rows.specs.Rows.{Row, RowOf}
 
-module _ (j : Job) (a : Acceptable j) (n : ℕ) (e : n ≡ points j) where
-  -- s rows have at most 4,096 values
-  pub few : (s : ℕ) → s ≤ j .m → s * n ≤ 4096
-  few s h =
-      let p = a .boxed .points in
-      let k = a .shaped .streams in
-      mul-le-mul {n₁ = s} {m₁ = n} {n₂ = 4} {m₂ = 1024} (omega arith) (omega arith)
-
+module _ (j : Job) (n : ℕ) (e : n ≡ points j) (s : ℕ) (h : s < j .m) where
   -- a row ends within the table
-  pub row-end : (s : ℕ) → s < j .m → s * n + n ≤ j .m * n
-  row-end s h = omega (arith, mul-le-mul {n₁ = s + 1} {m₁ = n} {n₂ = j .m} {m₂ = n} (omega arith) (omega arith))
+  pub row-end : s * n + n ≤ j .m * points j
+  row-end = omega (arith, mul-le-mul {n₁ = s + 1} {m₁ = n} {n₂ = j .m} {m₂ = points j} (omega arith) (omega arith))
 
   -- the part that is lent is the row
-  pub has-row : (table : List ℕ) (s : ℕ) → length table ≡ j .m * n → s < j .m → Row j table s (take (s * n + n - s * n) (drop (s * n) table))
-  has-row table s l h = rw add-sub-cancel-left (inl ((a, l ∙ ap (λ (i : ℕ). j .m * i) e, h), rw e))
+  pub has-row : (table : List ℕ) → Acceptable j → length table ≡ j .m * points j → Row j table s (take (s * n + n - s * n) (drop (s * n) table))
+  has-row table a l = rw add-sub-cancel-left (inl ((a, l, h), rw e))
 
-  -- no row in a table of another length
-  pub other-length : (table : List ℕ) (s : ℕ) → (length table ≡ j .m * n → ⊥) → Row j table s []
-  other-length table s h = inr ((λ w. h (w .1 ∙ ap (λ (i : ℕ). j .m * i) (sym e))), refl)
+-- no row in a table of another length
+pub other-length : (j : Job) (table : List ℕ) (s : ℕ) → (length table ≡ j .m * points j → ⊥) → Row j table s []
+other-length j table s h = inr ((λ w. h (w .1)), refl)
 
 -- no row of a job that is refused
 pub no-job : (j : Job) (table : List ℕ) (s number : ℕ) → First (limits j) number → (number ≡ 0 → ⊥) → Row j table s []

@@ -10,14 +10,13 @@ pub fn row_of<'a>(j: Job, table: &'a [u32], s: u8) -> &'a [u32]
     if limits::number(j) != 0 {
         return &table[..0];
     }
-    let m = j.m as usize;
-    let points = boxes::count(j.bounds) as usize;
-    if table.len() != m * points {
+    if table.len() != tables::size_of(j) {
         return &table[..0];
     }
     if j.m <= s {
         return &table[..0];
     }
+    let points = boxes::count(j.bounds) as usize;
     let from = (s as usize) * points;
     let end = from + points;
     &table[from..end]

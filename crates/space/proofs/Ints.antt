@@ -148,6 +148,11 @@ natAbs-quot (pos a) (negsuc b) = natAbs-neg (pos (a / suc b))
 natAbs-quot (negsuc a) (pos b) = natAbs-neg (pos (suc a / b))
 natAbs-quot (negsuc a) (negsuc b) = refl
 
+-- a quotient of what is not negative is not negative
+pub quot-up : (z : ℤ) (n : ℕ) → pos 0 ≤ℤ z → quotZ z (pos n) ≡ pos (up (quotZ z (pos n)))
+quot-up (pos a) n h = refl
+quot-up (negsuc a) n h = absurd (h .le)
+
 pub natAbs-rem : (z d : ℤ) → natAbs (remZ z d) ≡ natAbs z % natAbs d
 natAbs-rem (pos a) d = refl
 natAbs-rem (negsuc a) d = natAbs-neg (pos (suc a % natAbs d))

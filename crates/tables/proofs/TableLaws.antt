@@ -1,24 +1,29 @@
 -- Laws of the tables: the point before one stands before it, where an entry stands, and a column that is worked.
-use mathlib.Core.Path.{_≡_, refl, sym, _∙_}
+use mathlib.Core.Path.{_≡_, refl, sym, subst, _∙_}
 use mathlib.Core.Logic.{⊎-elim}
+use mathlib.Core.Bool.{_&&_}
 use mathlib.Core.List.{List}
 use mathlib.Core.Option.{some}
 use Prim.Native.Nat.{ℕ, _+_, _*_, _<_, _≤_}
 use native.Mathlib.Decide.{ℕ-discrete}
 use native.Mathlib.Omega.{arith}
 use lib.Arith.{digits-lt}
+use lib.Dec.{eqb}
 use lib.ListN.{length, getD, set, length-set}
 use lib.Seq.{getD-set-same, getD-set-other}
+use borrow.Author.Count.{below-more}
+use Rattle.space.specs.Numbers.{Tells}
+use Rattle.space.proofs.Telling.{tells-and, tells-eq}
 use Rattle.boxes.proofs.BackLaws.{back-before}
 use Rattle.job.specs.declared.Job.{Job}
 use Rattle.job.specs.Refusals.{done}
 use Rattle.job.specs.Limits.{Acceptable}
 use Rattle.job.proofs.Accepting.{stream-sound}
 use Rattle.mapping.specs.Mapping.{box, stream, along}
-use Rattle.tables.specs.Tables.{points, entryFor, previous}
+use Rattle.tables.specs.Tables.{points, Long, entryFor, previous}
 use Rattle.cell.specs.Cells.{ruled, work}
 use Rattle.tables.specs.Columns.{Column}
-use Rattle.space.proofs.Rows.{spots, rows-same}
+use Rattle.space.proofs.Rows.{other-spot, rows-same}
 
 -- ---- the point before one
 -- it stands before: d points forward
@@ -30,9 +35,17 @@ previous-before j a s k q ls lk e = back-before (box j) (along j s) k q (stream-
 pub entry-in : (j : Job) (s k : ℕ) → s < j .m → k < points j → s * points j + k < j .m * points j
 entry-in j s k ls lk = digits-lt ls lk
 
+-- and it is found by the number of points
+pub place-as : (j : Job) {n r : ℕ} (s k : ℕ) → r ≡ s * n + k → n ≡ points j → r ≡ s * points j + k
+place-as j s k e f = rw f at e
+
 -- tables with the same entries are the same
 pub tables-same : (j : Job) (v w : List ℕ) → length v ≡ j .m * points j → length w ≡ j .m * points j → ((s k : ℕ) → s < j .m → k < points j → entryFor j v s k ≡ entryFor j w s k) → v ≡ w
 tables-same j = rows-same (j .m) (points j)
+
+-- a test of both lengths tells whether input and value table are as long as they must be
+pub tells-long : (j : Job) {n : ℕ} (a b : ℕ) → n ≡ j .m * points j → Tells (Long j a b) (eqb a n && eqb b n)
+tells-long j {n} a b e = subst (λ (k : ℕ). Tells ((a ≡ k) × (b ≡ k)) (eqb a n && eqb b n)) e (tells-and _ _ (tells-eq a n) (tells-eq b n))
 
 -- an acceptable job has at most 4 streams and 1,024 points
 pub few-streams : {j : Job} → Acceptable j → j .m ≤ 4
@@ -60,26 +73,24 @@ pub record Firsts (f : ℕ → ℕ) (got : List ℕ) (s : ℕ) : Type 0 where
   pub done : (u : ℕ) → u < s → getD got u 0 ≡ f u
 
 pub firsts-step : {f : ℕ → ℕ} {got : List ℕ} {s : ℕ} (v : ℕ) → Firsts f got s → s < 4 → v ≡ f s → Firsts f (set got s v) (s + 1)
-firsts-step {f} {got} {s} v d ls ev = record { four = length-set got s v ∙ d .four; done = λ u lu. go u lu (ℕ-discrete u s) }
-  where
-    go : (u : ℕ) → u < s + 1 → Dec (u ≡ s) → getD (set got s v) u 0 ≡ f u
-    go u lu (yes e) = rw e (getD-set-same got s v 0 (omega (arith, d .four)) ∙ ev)
-    go u lu (no ne) = getD-set-other got s u v 0 ne ∙ d .done u (omega arith)
+firsts-step {f} {got} {s} v d ls ev = record {
+  four = length-set got s v ∙ d .four;
+  done = below-more (λ (u : ℕ). getD (set got s v) u 0 ≡ f u) s (λ u lu. getD-set-other got s u v 0 (λ e. omega arith) ∙ d .done u lu) (getD-set-same got s v 0 (omega (arith, d .four)) ∙ ev);
+}
 
 -- ---- a column
 pub column-start : (j : Job) (k : ℕ) (got l : List ℕ) → length l ≡ j .m * points j → Column j k got l 0 l
 column-start j k got l e = record { size = e; here = λ s h. absurd (omega arith); others = λ s q ls lq ne. refl }
 
 pub column-step : (j : Job) (k : ℕ) (got l now : List ℕ) (s v : ℕ) → Column j k got l s now → s < j .m → k < points j → v ≡ work j s (λ (u : ℕ). getD got u 0) → Column j k got l (s + 1) (set now (s * points j + k) v)
-column-step j k got l now s v c ls lk ev =
-    record { size = length-set now (s * points j + k) v ∙ c .size; here = λ u lu. go u lu (ℕ-discrete u s); others = λ u q lu lq ne. away u q lq (λ e. ne (e .1)) ∙ c .others u q lu lq ne }
-  where
-    away : (u q : ℕ) → q < points j → ((u ≡ s) × (q ≡ k) → ⊥) → entryFor j (set now (s * points j + k) v) u q ≡ entryFor j now u q
-    away u q lq ne = getD-set-other now (s * points j + k) (u * points j + q) v 0 (λ e. ne (spots (points j) s u k q lk lq e))
-
-    go : (u : ℕ) → u < s + 1 → Dec (u ≡ s) → entryFor j (set now (s * points j + k) v) u k ≡ work j u (λ (t : ℕ). getD got t 0)
-    go u lu (yes e) = rw e (getD-set-same now (s * points j + k) v 0 (omega (arith, entry-in j s k ls lk, c .size)) ∙ ev)
-    go u lu (no ne) = away u k lk (λ e. ne (e .0)) ∙ c .here u (omega arith)
+column-step j k got l now s v c ls lk ev = record {
+  size = length-set now (s * points j + k) v ∙ c .size;
+  here =
+      below-more (λ (u : ℕ). entryFor j (set now (s * points j + k) v) u k ≡ work j u (λ (t : ℕ). getD got t 0)) s
+      (λ u lu. other-spot (points j) s u k k v now lk lk (λ e f. omega arith) ∙ c .here u lu)
+      (getD-set-same now (s * points j + k) v 0 (omega (arith, entry-in j s k ls lk, c .size)) ∙ ev);
+  others = λ u q lu lq ne. other-spot (points j) s u k q v now lk lq (λ e f. ne f) ∙ c .others u q lu lq ne;
+}
 
 -- one table has the column worked
 pub column-unique : (j : Job) (k : ℕ) (got before v w : List ℕ) → Column j k got before (j .m) v → Column j k got before (j .m) w → v ≡ w

@@ -20,6 +20,15 @@ pub fn place_in_table(s: u8, points: u64, k: u64) -> usize
     ((s as u64) * points + k) as usize
 }
 
+// How many values a table of the job has.
+pub fn size_of(j: Job) -> usize
+    requires { ⌜ Acceptable j ⌝ }
+    ensures few { λ r. ⌜ r ≤ 4096 ⌝ }
+    ensures is { λ r. ⌜ r ≡ j .m * pointsOf j ⌝ }
+{
+    place_in_table(j.m, boxes::count(j.bounds), 0)
+}
+
 // The place of the point before p, the point at place k, on stream s.
 pub fn previous_at(j: Job, s: u8, p: Vector, k: u64) -> Found
     requires { ⌜ Acceptable j × (s < j .m) × (k < pointsOf j) × (entries p ≡ pointOf (box j) k) ⌝ }

@@ -3,12 +3,12 @@ use mathlib.Core.Path.{_≡_, sym, _∙_}
 use mathlib.Core.List.{List}
 use Prim.Native.Nat.{ℕ, zero, suc, _+_, _*_, _<_, _≤_, _∣_}
 use native.Mathlib.Nat.{le-refl, le-trans, le-of-eq, mul-add, mul-one, mul-le-mul-left, div-one, le-of-dvd, le-div-iff-mul-le}
-use native.Mathlib.Decide.{ℕ-discrete}
 use native.Mathlib.Omega.{arith}
 use lib.ListN.{getD, take, drop}
 use lib.Seq.{getD-take, getD-drop}
 use lib.IntN.{ℤ, pos, negsuc, natAbs}
 use lib.Signed.{_≤ℤ_, quotZ}
+use borrow.Author.Count.{below-more}
 use Rattle.space.specs.Numbers.{up}
 use Rattle.space.proofs.Parts.{le-parts}
 use Rattle.job.specs.declared.Job.{Job}
@@ -44,11 +44,7 @@ from-next j s = next (cells j) (delays j s) (w j s) (delays j (s + 1)) (delays-n
 -- the delays of a stream and of those before it are among those of more streams
 delays-among : (j : Job) (n s : ℕ) → s < n → delays j s + w j s ≤ delays j n
 delays-among j zero s h = absurd (omega arith)
-delays-among j (suc n) s h = by (ℕ-discrete s n) (delays-among j n s)
-  where
-    by : Dec (s ≡ n) → (s < n → delays j s + w j s ≤ delays j n) → delays j s + w j s ≤ delays j n + w j n
-    by (yes e) more = rw e (le-refl (delays j n + w j n))
-    by (no ne) more = let i = more (omega arith) in omega arith
+delays-among j (suc n) s h = below-more (λ (u : ℕ). delays j u + w j u ≤ delays j n + w j n) n (λ u l. le-trans (delays-among j n u l) (omega arith)) (le-refl _) s (omega arith)
 
 -- so a band ends where that of a later stream begins, or before
 pub from-among : (j : Job) (n s : ℕ) → s < n → from j s + cells j * w j s ≤ from j n

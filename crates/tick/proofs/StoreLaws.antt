@@ -10,13 +10,14 @@ use native.Mathlib.Decide.{ℕ-discrete}
 use native.Mathlib.Omega.{arith}
 use lib.Arith.{digits-lt}
 use lib.ListN.{length, getD, set, take, drop, length-append, length-drop, length-set}
-use lib.Seq.{length-take-le, take-at, drop-at, drop-drop, getD-take, getD-set-same, getD-set-other}
+use lib.Seq.{length-take-le, take-at, drop-at, drop-drop, getD-take, getD-set-same}
+use borrow.Author.Count.{below-more}
 use borrow.Author.Tests.{eq-eqb, ne-eqb}
 use Rattle.boxes.specs.Boxes.{Box, countOf, given}
 use Rattle.job.specs.declared.Job.{Job}
 use Rattle.bands.specs.Bands.{rectangleOf, at, arrivalIn, Shifted}
 use Rattle.bands.specs.declared.Band.{Band}
-use Rattle.bands.proofs.BandLaws.{its-place}
+use Rattle.bands.proofs.BandLaws.{lent-as, its-place}
 use Rattle.tables.specs.Tables.{points, entryFor}
 use Rattle.mapping.specs.Frames.{rectangle, cells, tickOf, cellOf, w, from, held}
 use Rattle.tick.specs.Ticks.{lastOf, works, arrival}
@@ -24,18 +25,14 @@ use Rattle.tick.specs.Steps.{Runnable, Roomy, Band-lent, Slot, putOne, w
 use Rattle.frame.specs.Framing.{Banded}
 use Rattle.tick.proofs.RoomLaws.{from-among, delay-some, part-at}
 use Rattle.tick.proofs.LendingLaws.{part-size, from-first, band-fits, band-next, arrives}
-use Rattle.space.proofs.Rows.{spots}
+use Rattle.space.proofs.Rows.{other-spot}
 
 -- ---- a band as it is lent
 -- a band of the same length is lent as well
 pub still-lent : {j : Job} {s t : ℕ} {b : Band} {slot : ℕ} {before after : List ℕ} → Band-lent j s t b slot before → length after ≡ length before → Band-lent j s t b slot after
-still-lent L e = let l = L .lent in record { banded = L .banded; turn = L .turn; lent = record { shaped = l .shaped; inside = l .inside; size = e ∙ l .size; few = l .few } }
+still-lent L e = record { banded = L .banded; turn = L .turn; lent = lent-as (L .lent) e }
 
 -- ---- one place of the cells rewritten
--- a place that is not written to is as before
-away : (n x y slot r v : ℕ) (l : List ℕ) → slot < n → r < n → (y ≡ x → r ≡ slot → ⊥) → at n (set l (x * n + slot) v) y r ≡ at n l y r
-away n x y slot r v l ls lr ne = getD-set-other l (x * n + slot) (y * n + r) v 0 (λ e. let i = spots n x y slot r ls lr e in ne (i .0) (i .1))
-
 -- rewritten by f, then by g: by h, if g makes h of what f makes
 slot-then : (j : Job) (s slot : ℕ) (f g h : ℕ → ℕ) (before now after : List ℕ) → Slot j s slot f before now → Slot j s slot g now after → ((x : ℕ) → x < cells j → at (w j s) now x slot ≡ f x → g x ≡ h x) → Slot j s slot h before after
 slot-then j s slot f g h before now after p q e = record {
@@ -60,7 +57,7 @@ module _ (j : Job) (t s : ℕ) (b : Band) (slot : ℕ) (values band : List ℕ) 
       rw (L .banded .delay) (record {
         size = length-set band (x * w j s + slot) v;
         here = λ y ly. here y (ℕ-discrete y x);
-        others = λ y r ly lr ne. away (w j s) x y slot r v band inside lr (λ e f. ne f);
+        others = λ y r ly lr ne. other-spot (w j s) x y slot r v band inside lr (λ e f. ne f);
       })
     where
       inside : slot < w j s
@@ -72,7 +69,7 @@ module _ (j : Job) (t s : ℕ) (b : Band) (slot : ℕ) (values band : List ℕ) 
           (getD-set-same band (x * w j s + slot) v 0 (rw (L .banded .delay) at (place-in x lx .0)) ∙ ev)
       here y (no ne) =
           rw (eq-eqb (tickOf j k) t et, ne-eqb (cellOf j k) y (λ e. ne (sym e ∙ sym ex)))
-          (away (w j s) x y slot slot v band inside inside (λ e f. ne e))
+          (other-spot (w j s) x y slot slot v band inside inside (λ e f. ne e))
 
 -- ---- the points one after the other
 -- one more number tested
@@ -154,9 +151,9 @@ store-start j t values before = record {
 pub store-end : (j : Job) (t : ℕ) (values before places : List ℕ) (start s : ℕ) → Storing j t values before places start s → j .m ≤ s → Stored j t values (j .m) before places
 store-end j t values before places start s d le = let e : s ≡ j .m = omega (arith, d .low) in rw e at (d .stored)
 
--- the places are still enough
-pub still-roomy : {j : Job} {t s : ℕ} {values before places : List ℕ} → Stored j t values s before places → Roomy j before → Roomy j places
-still-roomy d r = record { enough = omega (arith, d .size, r .enough) }
+-- places of the same length are enough as well
+pub roomy-as : {j : Job} {before after : List ℕ} → Roomy j before → length after ≡ length before → Roomy j after
+roomy-as r e = record { enough = omega (arith, r .enough, e) }
 
 -- the band of stream s, with n cells from place a on, is lent and comes back as ys
 module _ (j : Job) (R : Runnable j) (s : ℕ) (h : s < j .m) (b : Band) (B : Banded j s b) (a n : ℕ) (ea : a ≡ from j s) (en : n ≡ cells j) (t : ℕ) (values before places ys : List ℕ) (r : Roomy j before) (d : Stored j t values s before places) where
@@ -182,7 +179,7 @@ module _ (j : Job) (R : Runnable j) (s : ℕ) (h : s < j .m) (b : Band) (B : Ban
   module _ (p : Slot j s (t % b .w) (λ (x : ℕ). workedOr j t s values (points j) x (arrivalIn b (t % b .w) (lentPart places) x)) (lentPart places) ys) where
     comes-back : Back places ys a (n * b .w) back
     comes-back =
-        let i = band-fits R h B ea en places (still-roomy d r) .0 in
+        let i = band-fits R h B ea en places (roomy-as r (d .size)) .0 in
         let e = p .size ∙ part-size places a (n * b .w) i in
         rw (add-sub-cancel-left a (n * b .w)) (lent-back places ys a (n * b .w) i e)
 
@@ -197,21 +194,20 @@ module _ (j : Job) (R : Runnable j) (s : ℕ) (h : s < j .m) (b : Band) (B : Ban
     slot-is : t % b .w ≡ t % w j s
     slot-is = ap (λ (i : ℕ). t % i) (B .delay)
 
-    stores-here : (x : ℕ) → x < cells j → held j back s x (t % w j s) ≡ workedOr j t s values (points j) x (arrival j t before s x)
+    -- the band of stream u holds what the tick stores there, and at its other places what it held
+    abbrev Stores : ℕ → Type 0
+    Stores u = (x : ℕ) → x < cells j → held j back u x (t % w j u) ≡ workedOr j t u values (points j) x (arrival j t before u x)
+
+    abbrev Keeps : ℕ → Type 0
+    Keeps u = (x q : ℕ) → x < cells j → q < w j u → (q ≡ t % w j u → ⊥) → held j back u x q ≡ held j before u x q
+
+    stores-here : Stores s
     stores-here x lx =
         now-here x (t % w j s) lx (mod-lt t (delay-some j R s h)) ∙ ap (at (w j s) ys x) (sym slot-is) ∙ p .here x lx
         ∙ ap (workedOr j t s values (points j) x) (ap (λ (l : List ℕ). arrivalIn b (t % b .w) l x) untouched ∙ arrives R h B ea en before t x)
 
-    keeps-here : (x q : ℕ) → x < cells j → q < w j s → (q ≡ t % w j s → ⊥) → held j back s x q ≡ held j before s x q
+    keeps-here : Keeps s
     keeps-here x q lx lq ne = now-here x q lx lq ∙ p .others x q lx lq (λ e. ne (e ∙ slot-is)) ∙ was x q lx lq
-
-    stores-all : (u x : ℕ) → u < s + 1 → x < cells j → Dec (u ≡ s) → held j back u x (t % w j u) ≡ workedOr j t u values (points j) x (arrival j t before u x)
-    stores-all u x lu lx (yes e) = rw e (stores-here x lx)
-    stores-all u x lu lx (no ne) = earlier u x (t % w j u) (omega arith) lx (mod-lt t (delay-some j R u (omega arith))) ∙ d .stores u x (omega arith) lx
-
-    keeps-all : (u x q : ℕ) → u < s + 1 → x < cells j → q < w j u → (q ≡ t % w j u → ⊥) → Dec (u ≡ s) → held j back u x q ≡ held j before u x q
-    keeps-all u x q lu lx lq ne (yes e) = rw e (keeps-here x q lx (rw e at lq) (rw e at ne))
-    keeps-all u x q lu lx lq ne (no other) = earlier u x q (omega arith) lx lq ∙ d .keeps u x q (omega arith) lx lq ne
 
     -- what lies behind it is as before
     beyond-it : drop (a + n * b .w) back ≡ drop (a + n * b .w) before
@@ -224,8 +220,8 @@ module _ (j : Job) (R : Runnable j) (s : ℕ) (h : s < j .m) (b : Band) (B : Ban
       begin = band-next R h B ea en;
       stored = record {
         size = comes-back .size ∙ d .size;
-        stores = λ u x lu lx. stores-all u x lu lx (ℕ-discrete u s);
-        keeps = λ u x q lu lx lq ne. keeps-all u x q lu lx lq ne (ℕ-discrete u s);
+        stores = λ u x lu lx. below-more Stores s (λ u l x lx. earlier u x (t % w j u) l lx (mod-lt t (delay-some j R u (omega arith))) ∙ d .stores u x l lx) stores-here u lu x lx;
+        keeps = λ u x q lu lx lq ne. below-more Keeps s (λ u l x q lx lq ne. earlier u x q l lx lq ∙ d .keeps u x q l lx lq ne) keeps-here u lu x q lx lq ne;
         beyond = rw (← (band-next R h B ea en)) beyond-it;
       };
     }

@@ -3,9 +3,9 @@ use mathlib.Core.Path.{_≡_, refl, sym, ap, _∙_}
 use mathlib.Core.List.{List}
 use mathlib.Core.Option.{none, some}
 use Prim.Native.Nat.{ℕ, _+_, _*_, _<_}
-use native.Mathlib.Decide.{ℕ-discrete}
 use native.Mathlib.Omega.{arith}
 use lib.ListN.{length, getD}
+use borrow.Author.Count.{below-more}
 use Rattle.job.specs.declared.Job.{Job}
 use Rattle.job.specs.Limits.{Acceptable}
 use Rattle.tables.specs.Tables.{points, entryFor, previous}
@@ -49,13 +49,11 @@ module _ {j : Job} {input : List ℕ} {t : ℕ} {places : List ℕ} where
   pub points-step : {k : ℕ} {before now after : List ℕ} → k < points j → Points j input t places k before now → Point j input t places k now after → Points j input t places (k + 1) before after
   points-step {k} {before} {now} {after} lk g p = record {
     size = p .size ∙ g .size;
-    worked = λ s q ls lq e. go s q ls lq e (ℕ-discrete q k);
+    worked = λ s q ls lq.
+        below-more (λ (q : ℕ). tickOf j q ≡ t → entryFor j after s q ≡ fresh j input t places s (cellOf j q) q) k
+        (λ q l e. p .spared s q ls (omega arith) (λ f d. omega arith) ∙ g .worked s q ls l e) (p .worked s ls) q lq;
     spared = λ s q ls lq ne. p .spared s q ls lq (λ e f. ne (omega arith) (ap (tickOf j) e ∙ f)) ∙ g .spared s q ls lq (λ l f. ne (omega arith) f);
   }
-    where
-      go : (s q : ℕ) → s < j .m → q < k + 1 → tickOf j q ≡ t → Dec (q ≡ k) → entryFor j after s q ≡ fresh j input t places s (cellOf j q) q
-      go s q ls lq e (yes same) = rw same (p .worked s ls (sym (ap (tickOf j) same) ∙ e))
-      go s q ls lq e (no ne) = p .spared s q ls (omega arith) (λ f d. ne f) ∙ g .worked s q ls (omega arith) e
 
   -- all are done
   pub points-end : {k : ℕ} {before after : List ℕ} → k ≡ points j → Points j input t places k before after → Points j input t places (points j) before after

@@ -5,12 +5,12 @@ use Prim.Native.Nat.{ℕ, _+_, _*_, _<_, _≤_}
 use native.Mathlib.Nat.{le-trans, le-of-eq, div-le-self, mul-one}
 use native.Mathlib.Numerals.{add-one}
 use lib.ListN.{length}
-use lib.IntN.{ℤ, pos, negsuc, natAbs}
-use lib.Signed.{_≤ℤ_, quotZ}
+use lib.IntN.{ℤ, pos, natAbs}
 use Rattle.space.specs.Numbers.{up, Size}
 use Rattle.space.specs.Vectors.{Sized, entries}
 use Rattle.boxes.specs.Boxes.{across, countOf, leastOf, greatestOf, reach}
-use Rattle.space.proofs.Ints.{natAbs-quot}
+use Rattle.space.proofs.Parts.{int}
+use Rattle.space.proofs.Ints.{natAbs-quot, quot-up}
 use Rattle.space.proofs.VectorLaws.{dot-size, sized-up}
 use Rattle.boxes.proofs.BoxLaws.{sides-sized, across-size}
 use Rattle.job.specs.declared.Job.{Job}
@@ -39,15 +39,10 @@ unfolding countOf
 cells-are j = ap (λ (n : ℕ). across (reach (entries (j .row0)) (box j)) * n) (mul-one (across (reach (entries (j .row1)) (box j))))
 
 -- ---- the w
--- a quotient of what is not negative is not negative
-quotient-up : (z : ℤ) (n : ℕ) → pos 1 ≤ℤ z → natAbs (quotZ z (pos n)) ≡ up (quotZ z (pos n))
-quotient-up (pos a) n h = refl
-quotient-up (negsuc a) n h = absurd (h .le)
-
 module _ (j : Job) (s : ℕ) where
   -- a stream that keeps precedence has a w that is not negative
   pub delay-up : Ahead j s → natAbs (delay j s) ≡ up (delay j s)
-  delay-up h = quotient-up (H j (along j s)) (hops j s) h
+  delay-up h = ap natAbs (quot-up (H j (along j s)) (hops j s) (omega int))
 
   -- w is at most 4 × 127 × 15 in size
   pub delay-size : Acceptable j → s < j .m → natAbs (delay j s) ≤ 7620

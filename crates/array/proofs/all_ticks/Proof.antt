@@ -3,7 +3,8 @@ use mathlib.Core.Path.{sym, _∙_}
 use Prim.Native.Nat.{_-_}
 use native.Mathlib.Omega.{arith}
 use denote.Ref.{now}
-use Rattle.array.proofs.RunLaws.{Running, run-start, run-step, run-end, roomy-as}
+use Rattle.array.proofs.RunLaws.{Running, run-start, run-step, run-end}
+use Rattle.tick.proofs.StoreLaws.{roomy-as}
 use Rattle.array.proofs.all_ticks.Statement.{statement}
 use Rattle.array.proofs.all_ticks.Tie as tie
 

@@ -7,7 +7,7 @@ use denote.Ref.{now}
 use Rattle.boxes.specs.Boxes.{countOf}
 use Rattle.bands.specs.Bands.{rectangleOf, Lent}
 use Rattle.bands.specs.Turns.{turnOf}
-use Rattle.bands.proofs.BandLaws.{turn-below, its-place, Shifting, shift-start, shift-step, shift-end}
+use Rattle.bands.proofs.BandLaws.{turn-below, lent-as, its-place, Shifting, shift-start, shift-step, shift-end}
 use Rattle.bands.proofs.shift.Statement.{statement}
 use Rattle.bands.proofs.shift.Tie as tie
 
@@ -19,7 +19,7 @@ abbrev μ-loop : tie.MeasureT-loop
 
 -- the band as it is on the way
 lent : (c : tie.At-loop Inv-loop μ-loop) → Lent (c .before .before .before .args .b) (c .before .before .before .args .slot) (c .loop .places)
-lent c = let l = c .before .before .before .pre .0 in record { shaped = l .shaped; inside = l .inside; size = c .loop .inv .size ∙ l .size; few = l .few }
+lent c = lent-as (c .before .before .before .pre .0) (c .loop .inv .size)
 
 -- a turn below the number of cells, and its cell
 its-turn : (c : tie.In-loop Inv-loop μ-loop) → c .before .loop .k < countOf (rectangleOf (c .before .before .before .before .args .b))

@@ -1,10 +1,9 @@
 -- The rectangle of those rows and columns, and the stream's course as hop and delay.
-use mathlib.Core.Path.{_≡_, refl, ap, _∙_}
-use mathlib.Core.List.{[], _∷_}
+use mathlib.Core.Path.{refl, ap, ap₂, _∙_}
 use borrow.Author.Needs.{needs}
-use lib.IntN.{ℤ, natAbs}
+use lib.IntN.{natAbs}
 use Rattle.space.specs.Vectors.{entries}
-use Rattle.boxes.specs.Boxes.{Box, side}
+use Rattle.boxes.specs.Boxes.{side}
 use Rattle.space.proofs.VectorLaws.{two, unfour}
 use Rattle.mapping.proofs.Fits.{row0-sized, row1-sized}
 use Rattle.mapping.proofs.Meetings.{unit-sized}
@@ -19,10 +18,6 @@ course-of-requires c κs = (c .pre .0, c .pre .4)
 size-requires : tie.Need-size-requires
 size-requires c κs = search needs
 
--- two sides
-sides : {a b c d a′ b′ c′ d′ : ℤ} → a ≡ a′ → b ≡ b′ → c ≡ c′ → d ≡ d′ → _≡_ {A = Box} (side a b ∷ side c d ∷ []) (side a′ b′ ∷ side c′ d′ ∷ [])
-sides e f g h = rw (e, f, g, h)
-
 returns : tie.Need-returns
 returns c =
     let g = c .before .before .before .before .before .before .before .args in
@@ -33,7 +28,7 @@ returns c =
     let u = unfour (c .before .before .before .before .before .before .course-of .ensures .unit) in
     let z = unit-sized (g .j) (g .s) a (p .4) .each in
     record {
-      rectangle = sides (held-is (p .2 .low) (s0 .0)) (held-is (p .2 .high) (s0 .1)) (held-is (p .3 .low) (s1 .0)) (held-is (p .3 .high) (s1 .1));
+      rectangle = two (ap₂ side (held-is (p .2 .low) (s0 .0)) (held-is (p .2 .high) (s0 .1))) (ap₂ side (held-is (p .3 .low) (s1 .0)) (held-is (p .3 .high) (s1 .1)));
       hop = two (held-limit (u .1) (z .1 .0)) (held-limit (u .2) (z .1 .1 .0));
       delay = c .before .before .before .size .ensures ∙ ap natAbs (held-limit (u .0) (z .0)) ∙ delay-up (g .j) (g .s) (p .1 (g .s) (p .4));
     }

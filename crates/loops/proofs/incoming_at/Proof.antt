@@ -8,7 +8,7 @@ use denote.Ref.{now}
 use borrow.Author.Needs.{needs}
 use Rattle.tables.specs.Tables.{points, previous}
 use Rattle.boxes.specs.Boxes.{foundOf}
-use Rattle.tables.proofs.TableLaws.{few-streams, few-points, entry-in, previous-before}
+use Rattle.tables.proofs.TableLaws.{few-streams, few-points, entry-in, place-as, previous-before}
 use Rattle.loops.proofs.LoopLaws.{incoming-some, incoming-none}
 use Rattle.loops.proofs.incoming_at.Statement.{statement}
 use Rattle.loops.proofs.incoming_at.Tie as tie
@@ -39,7 +39,7 @@ place-in-table-requires c κs =
 
 -- where it is read
 at : (c : tie.After-place-in-table) → c .place-in-table .result ≡ c .before .before .before .before .before .before .before .args .s * points (c .before .before .before .before .before .before .before .args .j) + c .before .before .found .given .0 .0
-at c = c .place-in-table .ensures .1 ∙ ap (λ n. c .before .before .before .before .before .before .before .args .s * n + c .before .before .found .given .0 .0) (c .before .before .before .before .before .before .before .pre .0 .count)
+at c = place-as (c .before .before .before .before .before .before .before .args .j) _ _ (c .place-in-table .ensures .1) (c .before .before .before .before .before .before .before .pre .0 .count)
 
 mul-result : tie.Need-mul-result
 mul-result c = omega (arith, c .place-in-table .ensures .0)
@@ -57,7 +57,7 @@ place-in-table-requires-2 : tie.Need-place-in-table-requires-2
 place-in-table-requires-2 c κs = search needs
 
 at-2 : (c : tie.After-place-in-table2) → c .place-in-table2 .result ≡ c .before .before .before .before .before .before .args .s * points (c .before .before .before .before .before .before .args .j) + c .before .before .before .before .before .before .args .k
-at-2 c = c .place-in-table2 .ensures .1 ∙ ap (λ n. c .before .before .before .before .before .before .args .s * n + c .before .before .before .before .before .before .args .k) (c .before .before .before .before .before .before .pre .0 .count)
+at-2 c = place-as (c .before .before .before .before .before .before .args .j) _ _ (c .place-in-table2 .ensures .1) (c .before .before .before .before .before .before .pre .0 .count)
 
 mul-result-2 : tie.Need-mul-result-2
 mul-result-2 c = omega (arith, c .place-in-table2 .ensures .0)

@@ -1,14 +1,14 @@
 -- Past each test one thing more is known of the job, the table and the stream.
-use mathlib.Core.Path.{subst}
+use mathlib.Core.Path.{sym, subst, _∙_}
 use Prim.Native.Nat.{_+_, _*_, _≤_}
 use native.Mathlib.Omega.{arith}
 use borrow.Author.Needs.{needs}
-use Rattle.space.proofs.VectorLaws.{sized-up}
 use Rattle.space.proofs.Machine.{fits-under}
 use Rattle.job.specs.Refusals.{First}
 use Rattle.job.specs.Limits.{limits, Acceptable}
 use Rattle.job.proofs.Refusing.{accepted}
-use Rattle.rows.proofs.RowLaws.{few, row-end, has-row, other-length, no-job, no-stream}
+use Rattle.mapping.proofs.Fits.{walkable}
+use Rattle.rows.proofs.RowLaws.{row-end, has-row, other-length, no-job, no-stream}
 use Rattle.rows.proofs.row_of.Statement.{statement}
 use Rattle.rows.proofs.row_of.Tie as tie
 
@@ -21,38 +21,33 @@ slice-aggregate-result c = search needs
 returns : tie.Need-returns
 returns c = no-job (c .before .before .before .before .args .j) _ _ _ (c .before .before .number .ensures) (c .before .if1 .taken)
 
-cast-m : tie.Need-cast-m
-cast-m c = search needs
-
 -- past the first test the job is acceptable
 past : (c : tie.Else1) → Acceptable (c .before .before .before .args .j)
 past c = accepted (c .before .before .before .args .j) (subst (First (limits (c .before .before .before .args .j))) (c .if1 .left) (c .before .number .ensures))
 
-count-requires : tie.Need-count-requires
-count-requires c κs = let a = past (c .before) in (sized-up (omega arith) (a .boxed .low), sized-up (omega arith) (a .boxed .high))
-
-mul-if2 : tie.Need-mul-if2
-mul-if2 c = fits-under (few (c .before .before .before .before .before .args .j) (past (c .before .before)) (c .count .result) (c .count .ensures) (c .before .before .before .before .before .args .j .m) (omega arith)) tt
+size-of-requires : tie.Need-size-of-requires
+size-of-requires c κs = past c
 
 slice-aggregate-result-2 : tie.Need-slice-aggregate-result-2
 slice-aggregate-result-2 c = search needs
 
 returns-2 : tie.Need-returns-2
-returns-2 c = other-length (c .before .before .before .before .before .before .before .args .j) (past (c .before .before .before .before)) (c .before .before .count .result) (c .before .before .count .ensures) _ _ (c .before .if2 .taken)
+returns-2 c = other-length (c .before .before .before .before .before .before .args .j) _ _ (λ e. c .before .if2 .taken (e ∙ sym (c .before .before .size-of .ensures .1)))
 
 slice-aggregate-result-3 : tie.Need-slice-aggregate-result-3
 slice-aggregate-result-3 c = search needs
 
 returns-3 : tie.Need-returns-3
-returns-3 c = no-stream (c .before .before .before .before .before .before .before .before .before .args .j) _ _ (c .before .if3 .taken)
+returns-3 c = no-stream (c .before .before .before .before .before .before .before .before .args .j) _ _ (c .before .if3 .taken)
+
+count-requires : tie.Need-count-requires
+count-requires c κs = walkable (past (c .before .before .before .before))
 
 -- past all tests the row ends within the table, which is short
-ends : (c : tie.Else3) → (c .before .before .before .before .before .before .before .before .args .s * c .before .before .before .count .result + c .before .before .before .count .result ≤ c .before .before .before .before .before .before .before .before .args .j .m * c .before .before .before .count .result) × (c .before .before .before .before .before .before .before .before .args .j .m * c .before .before .before .count .result ≤ 4096)
+ends : (c : tie.After-count) → (c .before .before .before .before .before .before .before .before .args .s * c .count .result + c .count .result ≤ c .before .before .before .before .size-of .result) × (c .before .before .before .before .size-of .result ≤ 4096)
 ends c =
-    let j = c .before .before .before .before .before .before .before .before .args .j in
-    let n = c .before .before .before .count .result in
-    let e = c .before .before .before .count .ensures in
-    (row-end j (past (c .before .before .before .before .before)) n e (c .before .before .before .before .before .before .before .before .args .s) (c .if3 .left), few j (past (c .before .before .before .before .before)) n e (j .m) (omega arith))
+    let z = c .before .before .before .before .size-of .ensures in
+    (omega (arith, z .1, row-end (c .before .before .before .before .before .before .before .before .args .j) (c .count .result) (c .count .ensures) (c .before .before .before .before .before .before .before .before .args .s) (c .before .if3 .left)), z .0)
 
 mul-from : tie.Need-mul-from
 mul-from c = let h = ends c in fits-under {b = 4096} (omega arith) tt
@@ -73,7 +68,7 @@ part-result-end : tie.Need-part-result-end
 part-result-end c = let h = ends c in omega arith
 
 returns-4 : tie.Need-returns-4
-returns-4 c = has-row (c .before .before .before .before .before .before .before .before .before .args .j) (past (c .before .before .before .before .before .before)) (c .before .before .before .before .count .result) (c .before .before .before .before .count .ensures) _ _ (c .before .before .before .if2 .left) (c .before .if3 .left)
+returns-4 c = has-row (c .before .before .before .before .before .before .before .before .before .args .j) (c .before .count .result) (c .before .count .ensures) _ (c .before .before .if3 .left) _ (past (c .before .before .before .before .before .before)) (c .before .before .before .before .if2 .left ∙ c .before .before .before .before .before .size-of .ensures .1)
 
 pub row-of-spec : {M : Type 1} → statement M
-row-of-spec = tie.close (tie.spec number-requires slice-aggregate-result returns cast-m count-requires mul-if2 slice-aggregate-result-2 returns-2 slice-aggregate-result-3 returns-3 mul-from add-end mul-result sub-result part-result-start part-result-end returns-4)
+row-of-spec = tie.close (tie.spec number-requires slice-aggregate-result returns size-of-requires slice-aggregate-result-2 returns-2 slice-aggregate-result-3 returns-3 count-requires mul-from add-end mul-result sub-result part-result-start part-result-end returns-4)

@@ -8,7 +8,7 @@ use Rattle.job.specs.declared.Stream.{Stream}
 use Rattle.tables.specs.Tables.{points}
 use Rattle.cell.specs.Cells.{ruled, work}
 use Rattle.tables.specs.Columns.{Column}
-use Rattle.tables.proofs.TableLaws.{few-streams, few-points, sources, entry-in, column-start, column-step}
+use Rattle.tables.proofs.TableLaws.{few-streams, few-points, sources, entry-in, place-as, column-start, column-step}
 use Rattle.tables.proofs.put_column.Statement.{statement}
 use Rattle.tables.proofs.put_column.Tie as tie
 
@@ -43,7 +43,7 @@ place-in-table-requires c κs =
 
 -- where it is written
 at : (c : tie.After-place-in-table Inv-loop μ-loop) → c .place-in-table .result ≡ c .before .before .before .before .loop .s * points (c .before .before .before .before .before .before .args .j) + c .before .before .before .before .before .before .args .k
-at c = c .place-in-table .ensures .1 ∙ ap (λ n. c .before .before .before .before .loop .s * n + c .before .before .before .before .before .before .args .k) (c .before .before .before .before .before .before .pre .0 .count)
+at c = place-as (c .before .before .before .before .before .before .args .j) _ _ (c .place-in-table .ensures .1) (c .before .before .before .before .before .before .pre .0 .count)
 
 low : (c : tie.After-place-in-table Inv-loop μ-loop) → c .before .before .before .before .before .before .args .k < points (c .before .before .before .before .before .before .args .j)
 low c = omega (arith, c .before .before .before .before .before .before .pre .0 .count, c .before .before .before .before .before .before .pre .1)

@@ -6,7 +6,7 @@ use lib.ListN.{length, getD}
 use denote.Ref.{now}
 use borrow.Author.Needs.{needs}
 use Rattle.tables.specs.Tables.{points}
-use Rattle.tables.proofs.TableLaws.{few-points, entry-in}
+use Rattle.tables.proofs.TableLaws.{few-points, entry-in, place-as}
 use Rattle.mapping.proofs.Fits.{walkable}
 use Rattle.tick.proofs.StoreLaws.{place-in, put-none, put-one}
 use Rattle.tick.proofs.store.put_point.Statement.{statement}
@@ -40,9 +40,7 @@ there c =
 
 -- its place in the table
 entry : (c : tie.After-struct-known) → c .before .place-in-table .result ≡ c .before .before .before .before .before .before .before .before .before .args .s * points (c .before .before .before .before .before .before .before .before .before .args .j) + c .before .before .before .before .before .before .before .before .before .args .k
-entry c =
-    let a = c .before .before .before .before .before .before .before .before .before .args in
-    c .before .place-in-table .ensures .1 ∙ ap (λ (n : ℕ). a .s * n + a .k) (c .before .before .before .before .before .before .before .before .before .pre .0 .framed .points)
+entry c = place-as (c .before .before .before .before .before .before .before .before .before .args .j) _ _ (c .before .place-in-table .ensures .1) (c .before .before .before .before .before .before .before .before .before .pre .0 .framed .points)
 
 mul-i : tie.Need-mul-i
 mul-i c = let i = there c in omega arith

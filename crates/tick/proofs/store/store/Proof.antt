@@ -6,7 +6,7 @@ use denote.Ref.{now}
 use Rattle.tables.proofs.TableLaws.{few-streams}
 use Rattle.frame.specs.Framing.{Banded}
 use Rattle.tick.proofs.LendingLaws.{band-is, band-fits, some-delay, band-lent}
-use Rattle.tick.proofs.StoreLaws.{Storing, store-start, store-step, store-end, still-roomy}
+use Rattle.tick.proofs.StoreLaws.{Storing, store-start, store-step, store-end, roomy-as}
 use Rattle.tick.proofs.store.store.Statement.{statement}
 use Rattle.tick.proofs.store.store.Tie as tie
 
@@ -35,7 +35,7 @@ fits c =
     let a = c .before .before .before .before .before .before .before .before .args in
     let q = c .before .before .before .before .before .before .before .before .pre in
     let l = c .before .before .before .before .loop in
-    let i = band-fits (q .0 .runnable) (c .before .before .before .loop-test .taken) (banded (c .before .before)) (l .inv .begin) (q .0 .framed .cells) (l .places) (still-roomy (l .inv .stored) (q .1)) in
+    let i = band-fits (q .0 .runnable) (c .before .before .before .loop-test .taken) (banded (c .before .before)) (l .inv .begin) (q .0 .framed .cells) (l .places) (roomy-as (q .1) (l .inv .stored .size)) in
     (i .0, i .1, some-delay (q .0 .runnable) (c .before .before .before .loop-test .taken) (banded (c .before .before)) (l .inv .begin) (q .0 .framed .cells))
 
 mul-end : tie.Need-mul-end Inv-loop μ-loop
@@ -64,7 +64,7 @@ store-band-requires c κs =
     let a = c .before .before .before .before .before .before .before .before .before .before .args in
     let q = c .before .before .before .before .before .before .before .before .before .before .pre in
     let l = c .before .before .before .before .before .before .loop in
-    (q .0, c .before .before .before .before .before .loop-test .taken, band-lent (q .0 .runnable) (c .before .before .before .before .before .loop-test .taken) (banded (c .before .before .before .before)) (l .inv .begin) (q .0 .framed .cells) (l .places) (still-roomy (l .inv .stored) (q .1)) (a .t), q .2)
+    (q .0, c .before .before .before .before .before .loop-test .taken, band-lent (q .0 .runnable) (c .before .before .before .before .before .loop-test .taken) (banded (c .before .before .before .before)) (l .inv .begin) (q .0 .framed .cells) (l .places) (roomy-as (q .1) (l .inv .stored .size)) (a .t), q .2)
 
 add-s : tie.Need-add-s Inv-loop μ-loop
 add-s c = omega (arith, c .before .before .before .before .before .before .before .before .loop-test .taken, few-streams (c .before .before .before .before .before .before .before .before .before .before .before .before .before .pre .0 .runnable .acceptable))

@@ -7,7 +7,7 @@ use denote.Ref.{now}
 use borrow.Author.Needs.{needs}
 use Rattle.boxes.specs.Boxes.{countOf, foundOf}
 use Rattle.tables.specs.Tables.{points}
-use Rattle.tables.proofs.TableLaws.{entry-in}
+use Rattle.tables.proofs.TableLaws.{entry-in, place-as}
 use Rattle.tick.proofs.LendingLaws.{band-fits, some-delay, lent, arrives}
 use Rattle.tick.proofs.WorkLaws.{incoming-some, incoming-none}
 use Rattle.tick.proofs.work.incoming_at.Statement.{statement}
@@ -67,7 +67,7 @@ mul-result c = search needs
 
 -- where the input is read
 there : (c : tie.After-place-in-table) → c .place-in-table .result ≡ c .before .before .before .before .before .before .args .s * points (c .before .before .before .before .before .before .args .j) + c .before .before .before .before .before .before .args .k
-there c = c .place-in-table .ensures .1 ∙ ap (λ n. c .before .before .before .before .before .before .args .s * n + c .before .before .before .before .before .before .args .k) (c .before .before .before .before .before .before .pre .0 .framed .points)
+there c = place-as (c .before .before .before .before .before .before .args .j) _ _ (c .place-in-table .ensures .1) (c .before .before .before .before .before .before .pre .0 .framed .points)
 
 shared-slice-read-result : tie.Need-shared-slice-read-result
 shared-slice-read-result c =
