@@ -22,10 +22,6 @@ module _ (j : Job) (a : Acceptable j) (n : ℕ) (e : n ≡ points j) where
       let k = a .shaped .streams in
       mul-le-mul {n₁ = s} {m₁ = n} {n₂ = 4} {m₂ = 1024} (omega arith) (omega arith)
 
-  -- a row ends within the table
-  pub row-end : (s : ℕ) → s < j .m → s * n + n ≤ j .m * n
-  row-end s h = omega (arith, mul-le-mul {n₁ = s + 1} {m₁ = n} {n₂ = j .m} {m₂ = n} (omega arith) (omega arith))
-
   -- the part that is lent is the row
   pub has-row : (table : List ℕ) (s : ℕ) → length table ≡ j .m * n → s < j .m → Row j table s (take (s * n + n - s * n) (drop (s * n) table))
   has-row table s l h = rw add-sub-cancel-left (inl ((a, l ∙ ap (λ (i : ℕ). j .m * i) e, h), rw e))

@@ -26,9 +26,6 @@ module _ (x y z : ℤ) where
   pub +ℤ-*ℤ : (x +ℤ y) *ℤ z ≡ x *ℤ z +ℤ y *ℤ z
   +ℤ-*ℤ = rw (parts x, parts y, parts z) (simp ring⊖ (omega int⊖))
 
-  pub -ℤ-*ℤ : (x -ℤ y) *ℤ z ≡ x *ℤ z -ℤ y *ℤ z
-  -ℤ-*ℤ = rw (parts x, parts y, parts z) (simp ring⊖ (omega int⊖))
-
   pub +ℤ-left-comm : x +ℤ (y +ℤ z) ≡ y +ℤ (x +ℤ z)
   +ℤ-left-comm = rw (parts x, parts y, parts z) (simp ring⊖ (omega int⊖))
 
@@ -80,14 +77,6 @@ pub *ℤ-anti : {x y : ℤ} (z : ℤ) → z ≤ℤ pos 0 → x ≤ℤ y → (z *
     let b = negℤ-*ℤ z y in
     omega (int, opposite (z *ℤ x), opposite (z *ℤ y))
 
--- a number in positive proportion
-pub *ℤ-positive : (z x : ℤ) → pos 0 <ℤ z → pos 0 <ℤ x → pos 0 <ℤ (z *ℤ x)
-*ℤ-positive (pos (suc m)) (pos (suc n)) h k = omega int
-*ℤ-positive (pos zero) x h k = absurd (omega int)
-*ℤ-positive (negsuc m) x h k = absurd (omega int)
-*ℤ-positive (pos (suc m)) (pos zero) h k = absurd (omega int)
-*ℤ-positive (pos (suc m)) (negsuc n) h k = absurd (omega int)
-
 pub *ℤ-cancel : {x y : ℤ} (z : ℤ) → (z ≡ pos 0 → ⊥) → x *ℤ z ≡ y *ℤ z → x ≡ y
 *ℤ-cancel (pos zero) p e = absurd (p refl)
 *ℤ-cancel {x} {y} (pos (suc n)) p e =
@@ -126,10 +115,7 @@ minus-size {x = x} {y} p q = record { size = omega (arith, natAbs-- x y) }
 pub times-size : {b d : ℕ} {x y : ℤ} → Size b x → Size d y → Size (b * d) (x *ℤ y)
 times-size {x = x} {y} p q = record { size = rw natAbs-* (mul-le-mul (p .size) (q .size)) }
 
--- from -b to b, and between two numbers of that size
-pub within : {b : ℕ} {z : ℤ} → negℤ (pos b) ≤ℤ z → z ≤ℤ pos b → Size b z
-within {b} {z} h k = record { size = omega (int, magnitude z, opposite (pos b)) }
-
+-- between two numbers of a size
 pub size-between : {b : ℕ} {l z u : ℤ} → Size b l → Size b u → l ≤ℤ z → z ≤ℤ u → Size b z
 size-between {l = l} {z} {u} p q h k = record { size = omega (int, magnitude l, magnitude u, magnitude z) }
 

@@ -1,8 +1,8 @@
 -- Places in rows of n: row and place in the row are told by the number, and a list of rows by its places.
 use mathlib.Core.Path.{_≡_, sym, ap, _∙_}
 use mathlib.Core.List.{List}
-use Prim.Native.Nat.{ℕ, zero, suc, _+_, _*_, _/_, _%_, _<_}
-use native.Mathlib.Nat.{div-add-mod', mod-lt, div-lt-iff-lt-mul}
+use Prim.Native.Nat.{ℕ, zero, suc, _+_, _*_, _/_, _%_, _<_, _≤_}
+use native.Mathlib.Nat.{div-add-mod', mod-lt, div-lt-iff-lt-mul, mul-le-mul-right, suc-mul}
 use native.Mathlib.Omega.{arith}
 use lib.Arith.{digits-div, digits-mod}
 use lib.ListN.{length, getD}
@@ -12,6 +12,10 @@ use lib.Seq.{ext-getD}
 pub spots : (n x y r q : ℕ) → r < n → q < n → y * n + q ≡ x * n + r → (y ≡ x) × (q ≡ r)
 spots n x y r q lr lq e =
     (sym (digits-div y lq) ∙ ap (λ (z : ℕ). z / n) e ∙ digits-div x lr, sym (digits-mod y lq) ∙ ap (λ (z : ℕ). z % n) e ∙ digits-mod x lr)
+
+-- one of m rows ends within them all
+pub row-within : (i m n : ℕ) → i < m → i * n + n ≤ m * n
+row-within i m n h = omega (arith, mul-le-mul-right {m = suc i} {n = m} n h, suc-mul i n)
 
 -- two lists of m rows that hold the same at every place are the same
 pub rows-same : (m n : ℕ) (v w : List ℕ) → length v ≡ m * n → length w ≡ m * n → ((x r : ℕ) → x < m → r < n → getD v (x * n + r) 0 ≡ getD w (x * n + r) 0) → v ≡ w

@@ -4,7 +4,7 @@ use mathlib.Core.Logic.{inl, inr}
 use Prim.Native.Nat.{ℕ, _*_}
 use native.Mathlib.Nat.{add-zero}
 use native.Mathlib.Omega.{arith}
-use Rattle.mapping.proofs.Fits.{walkable}
+use Rattle.job.proofs.Accepting.{walkable}
 use Rattle.tables.specs.Tables.{points}
 use Rattle.tables.proofs.TableLaws.{few-streams, few-points}
 use Rattle.answers.proofs.AnswerLaws.{lengths-differ, lengths-same}

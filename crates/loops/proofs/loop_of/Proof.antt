@@ -1,15 +1,15 @@
 -- The limits, then the sizes of both tables, then the work.
-use mathlib.Core.Path.{_≡_, refl, sym, ap, subst, _∙_}
+use mathlib.Core.Path.{_≡_, refl, sym, ap, _∙_}
 use Prim.Native.Nat.{_+_, _*_}
 use native.Mathlib.Nat.{add-zero}
 use native.Mathlib.Omega.{arith}
 use lib.ListN.{length}
 use denote.Ref.{now}
 use borrow.Author.Needs.{needs}
-use Rattle.job.specs.Refusals.{First, check, done}
+use Rattle.job.specs.Refusals.{check, done}
 use Rattle.job.specs.Limits.{limits, Acceptable}
 use Rattle.job.proofs.Refusing.{accepted, stop-first}
-use Rattle.mapping.proofs.Fits.{walkable}
+use Rattle.job.proofs.Accepting.{walkable}
 use Rattle.tables.specs.Tables.{points}
 use Rattle.tables.proofs.TableLaws.{few-streams, few-points}
 use Rattle.loops.proofs.LoopLaws.{table-refused, tables-taken}
@@ -26,7 +26,7 @@ returns c =
 
 -- past the limits the job is acceptable
 good : (c : tie.Else1) → Acceptable (c .before .before .before .before .args .j)
-good c = accepted (c .before .before .before .before .args .j) (subst (First (limits (c .before .before .before .before .args .j))) (c .if1 .left) (c .before .number .ensures))
+good c = accepted _ (c .if1 .left) (c .before .number .ensures)
 
 count-requires : tie.Need-count-requires
 count-requires c κs = walkable (good c)

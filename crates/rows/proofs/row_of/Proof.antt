@@ -1,14 +1,13 @@
 -- Past each test one thing more is known of the job, the table and the stream.
-use mathlib.Core.Path.{subst}
 use Prim.Native.Nat.{_+_, _*_, _≤_}
 use native.Mathlib.Omega.{arith}
 use borrow.Author.Needs.{needs}
-use Rattle.space.proofs.VectorLaws.{sized-up}
 use Rattle.space.proofs.Machine.{fits-under}
-use Rattle.job.specs.Refusals.{First}
-use Rattle.job.specs.Limits.{limits, Acceptable}
+use Rattle.space.proofs.Rows.{row-within}
+use Rattle.job.specs.Limits.{Acceptable}
 use Rattle.job.proofs.Refusing.{accepted}
-use Rattle.rows.proofs.RowLaws.{few, row-end, has-row, other-length, no-job, no-stream}
+use Rattle.job.proofs.Accepting.{walkable}
+use Rattle.rows.proofs.RowLaws.{few, has-row, other-length, no-job, no-stream}
 use Rattle.rows.proofs.row_of.Statement.{statement}
 use Rattle.rows.proofs.row_of.Tie as tie
 
@@ -26,10 +25,10 @@ cast-m c = search needs
 
 -- past the first test the job is acceptable
 past : (c : tie.Else1) → Acceptable (c .before .before .before .args .j)
-past c = accepted (c .before .before .before .args .j) (subst (First (limits (c .before .before .before .args .j))) (c .if1 .left) (c .before .number .ensures))
+past c = accepted _ (c .if1 .left) (c .before .number .ensures)
 
 count-requires : tie.Need-count-requires
-count-requires c κs = let a = past (c .before) in (sized-up (omega arith) (a .boxed .low), sized-up (omega arith) (a .boxed .high))
+count-requires c κs = walkable (past (c .before))
 
 mul-if2 : tie.Need-mul-if2
 mul-if2 c = fits-under (few (c .before .before .before .before .before .args .j) (past (c .before .before)) (c .count .result) (c .count .ensures) (c .before .before .before .before .before .args .j .m) (omega arith)) tt
@@ -52,7 +51,7 @@ ends c =
     let j = c .before .before .before .before .before .before .before .before .args .j in
     let n = c .before .before .before .count .result in
     let e = c .before .before .before .count .ensures in
-    (row-end j (past (c .before .before .before .before .before)) n e (c .before .before .before .before .before .before .before .before .args .s) (c .if3 .left), few j (past (c .before .before .before .before .before)) n e (j .m) (omega arith))
+    (row-within _ _ n (c .if3 .left), few j (past (c .before .before .before .before .before)) n e (j .m) (omega arith))
 
 mul-from : tie.Need-mul-from
 mul-from c = let h = ends c in fits-under {b = 4096} (omega arith) tt

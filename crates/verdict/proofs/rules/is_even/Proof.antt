@@ -1,16 +1,14 @@
 -- g divides Hd where no rest is left; where g is 0 the stream is stationary and nothing is asked.
-use mathlib.Core.Path.{_≡_, sym, ap, subst, _∙_}
+use mathlib.Core.Path.{_≡_, sym, subst, _∙_}
 use Prim.Native.Nat.{ℕ, _%_, _∣_}
 use native.Mathlib.Nat.{dvd-of-mod-eq-zero, mod-eq-zero-of-dvd}
 use native.Mathlib.Omega.{arith}
 use lib.Dec.{eqb}
-use lib.IntN.{ℤ, natAbs}
-use mir.Syntax.{w64}
-use mir.Val.{SFits}
+use lib.IntN.{natAbs}
 use borrow.Author.Needs.{needs}
 use Rattle.space.specs.Numbers.{Tells, difference}
 use Rattle.space.specs.Vectors.{entries, Sized}
-use Rattle.space.proofs.Machine.{held, in-range, back, never}
+use Rattle.space.proofs.Machine.{in-range, size-read, never}
 use Rattle.space.proofs.VectorLaws.{unfour}
 use Rattle.divisors.proofs.DivisorLaws.{gcd-unique}
 use Rattle.space.proofs.Telling.{tells-as, tells-eq}
@@ -41,10 +39,6 @@ size-requires-2 c κs = search needs
 gcd-requires : tie.Need-gcd-requires
 gcd-requires c κs = search needs
 
--- what `size` answers of a field that is x
-of-field : {n : ℕ} {v : ℤ} (x : ℤ) → SFits w64 v → v ≡ x → n ≡ natAbs (held v) → n ≡ natAbs x
-of-field x f e h = h ∙ ap natAbs (back f ∙ e)
-
 -- the entries of (Hd, Sd), and their gcd
 entries-are : (c : tie.After-gcd) → (c .before .before .before .before .before .placed .result .x0 ≡ H (c .before .before .before .before .before .before .before .before .args .j) (along (c .before .before .before .before .before .before .before .before .args .j) (c .before .before .before .before .before .before .before .before .args .s))) × (c .gcd .result ≡ g (c .before .before .before .before .before .before .before .before .args .j) (c .before .before .before .before .before .before .before .before .args .s))
 entries-are c =
@@ -52,8 +46,8 @@ entries-are c =
     let s = c .before .before .before .before .before .before .before .before .args .s in
     let v = c .before .before .struct-told2 .given in
     let e = unfour (subst (λ (t : Stream). entries (c .before .before .before .before .before .placed .result) ≡ placed j (entries (t .d))) (c .before .before .before .before .before .before .before .stream-at .ensures) (c .before .before .before .before .before .placed .ensures)) in
-    let a = of-field _ (in-range (v .1 .0 .1)) (e .1) (c .before .before .before .size .ensures) in
-    let b = of-field _ (in-range (v .1 .1 .0 .1)) (e .2) (c .before .size2 .ensures) in
+    let a = size-read (e .1) (in-range (v .1 .0 .1)) (c .before .before .before .size .ensures) in
+    let b = size-read (e .2) (in-range (v .1 .1 .0 .1)) (c .before .size2 .ensures) in
     (e .0, gcd-unique (rw (a, b) at (c .gcd .ensures)) (g-is j s))
 
 returns : tie.Need-returns
@@ -79,7 +73,7 @@ returns-2 : tie.Need-returns-2
 returns-2 c =
     let are = entries-are (c .before .before .before) in
     let v = c .before .struct-told3 .given in
-    divides (c .before .before .before .before .before .before .before .before .before .before .before .args .j) (c .before .before .before .before .before .before .before .before .before .before .before .args .s) _ _ (c .before .before .if1 .left) (are .1) (of-field _ (in-range (v .0 .1)) (are .0) (c .size3 .ensures))
+    divides (c .before .before .before .before .before .before .before .before .before .before .before .args .j) (c .before .before .before .before .before .before .before .before .before .before .before .args .s) _ _ (c .before .before .if1 .left) (are .1) (size-read (are .0) (in-range (v .0 .1)) (c .size3 .ensures))
 
 pub is-even-spec : {M : Type 1} → statement M
 is-even-spec = tie.close (tie.spec stream-at-requires placed-requires size-requires size-requires-2 gcd-requires returns size-requires-3 rem-result returns-2)

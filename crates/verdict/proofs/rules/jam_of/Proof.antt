@@ -4,17 +4,15 @@ use mathlib.Core.List.{List}
 use native.Mathlib.Omega.{arith}
 use lib.IntN.{ℤ}
 use borrow.Author.Needs.{needs}
-use Rattle.space.specs.Numbers.{coordinate}
 use Rattle.space.specs.Vectors.{entries, plusOf}
 use Rattle.space.proofs.Machine.{held, in-range, back}
 use Rattle.space.proofs.VectorLaws.{sized-up, minus-plus}
-use Rattle.boxes.proofs.BoxLaws.{in-sized, sides-sized}
 use Rattle.boxes.proofs.PairLaws.{apart-sized}
-use Rattle.mapping.specs.Mapping.{box, Stationary}
+use Rattle.mapping.specs.Mapping.{Stationary}
 use Rattle.mapping.specs.Collisions.{senders}
 use Rattle.mapping.specs.Searches.{Meets, MetAt, Finds-gap}
 use Rattle.mapping.proofs.Courses.{none-stationary, stationary-none}
-use Rattle.mapping.proofs.Fits.{low-sized, high-sized}
+use Rattle.job.proofs.Accepting.{low-sized, high-sized, in-box-sized}
 use Rattle.verdict.specs.Rules.{Meeting}
 use Rattle.verdict.specs.Replies.{FirstPair}
 use Rattle.verdict.proofs.FirstPairs.{link-by-gap, meets-meeting, no-pair, first-pair}
@@ -83,7 +81,7 @@ plus-requires c κs =
     let s = c .before .before .before .before .before .before .before .before .before .before .before .before .args .s in
     let a = c .before .before .before .before .before .before .before .before .before .before .before .before .pre .0 in
     let found = subst (Finds-gap (λ (y : List ℤ). (f : ℤ) × Meets j s y f) (senders j s)) (c .before .before .before .before .before .before .gap .given .1) (c .before .before .before .before .before .before .before .before .link-gap .ensures) in (
-      sized-up (omega arith) (in-sized coordinate (box j) _ (sides-sized (j .bounds) (low-sized j a) (high-sized j a)) (c .start .ensures .0 .0)),
+      sized-up (omega arith) (in-box-sized j a (c .start .ensures .0 .0)),
       sized-up (omega arith) (apart-sized (j .bounds) _ (low-sized j a) (high-sized j a) (found .1)),
     )
 
