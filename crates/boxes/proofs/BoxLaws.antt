@@ -1,5 +1,5 @@
 -- Laws of a box, shown once over its dimensions: places and points undo each other, the order of places is box order, and a box is convex.
-use mathlib.Core.Path.{_≡_, refl, sym, ap, ap₂, _∙_}
+use mathlib.Core.Path.{_≡_, refl, sym, ap, ap₂, subst, _∙_}
 use mathlib.Core.Logic.{_⊎_, inl, inr}
 use mathlib.Core.Bool.{Bool, _&&_}
 use mathlib.Core.List.{List, [], _∷_}
@@ -80,6 +80,10 @@ point-in [] k h = tt
 point-in (s ∷ ss) k h =
     let n = behind (across s) (countOf ss) k h in
     (steps-low (s .low) _, steps-high (s .low) (s .high) _ (div-lt-iff-lt-mul n .1 h), point-in ss _ (mod-lt k n))
+
+-- so what stands at a place is in the box
+pub stands-in : (B : Box) (k : ℕ) {p : List ℤ} → k < countOf B → p ≡ pointOf B k → In B p
+stands-in B k h e = subst (In B) (sym e) (point-in B k h)
 
 pub place-point : (B : Box) (k : ℕ) → k < countOf B → placeOf B (pointOf B k) ≡ k
 unfolding countOf placeOf pointOf
@@ -184,6 +188,9 @@ in-sized b B p w h = record { each = go B p w h }
     go [] (x ∷ xs) w h = absurd h
     go (s ∷ ss) [] w h = absurd h
     go (s ∷ ss) (x ∷ xs) w h = (size-between (w .0) (w .1) (h .0) (h .1), go ss xs (w .2) (h .2))
+
+pub inside-sized : {b : ℕ} (a : Bounds) {p : List ℤ} → Sized b (entries (a .low)) → Sized b (entries (a .high)) → In (boxOf a) p → Sized b p
+inside-sized {b} a {p} l u i = in-sized b (boxOf a) p (sides-sized a l u) i
 
 -- a box with l ≤ u for each has points, and one with a point has l ≤ u for each
 pub solid-count : (B : Box) → Solid B → 0 < countOf B

@@ -301,7 +301,7 @@ module _ (j : Job) where
   unfolding ahead past-limits
   from-start (suc n) w = (Limit (suc n), record { kept = tt; claim = (w, λ e. omega arith) })
   from-start zero w =
-      let a = accepted j w in
+      let a = accepted j refl w in
       let r = lowest-of (Ahead j) (ahead j) (j .m) in
       past-limits (a .boxed .solid) (tt, a) (r .0) (r .1)
 

@@ -16,7 +16,7 @@ use Rattle.space.specs.Order.{Forward}
 use Rattle.boxes.specs.Boxes.{Box, Solid}
 use Rattle.space.proofs.Ints.{≤ℤ-antisymm}
 use Rattle.space.proofs.Machine.{never, tells-lt, tells-leZ}
-use Rattle.divisors.proofs.DivisorLaws.{gcd-is, gcd-more, gcd-unique}
+use Rattle.divisors.proofs.DivisorLaws.{gcd-is, gcd-more, tells-gcd}
 use Rattle.space.proofs.Telling.{tells-as, tells-and, tells-or, tells-not, tells-where, tells-eq, tells-below, tells-le}
 use Rattle.job.specs.Record.{FirstsFrom, OthersFrom}
 use Rattle.job.specs.Refusals.{Checks, done, check, First}
@@ -36,6 +36,9 @@ failing n = (false, record { holds = λ e. never (sym e); fails = λ e. n })
 -- the same question in other words
 abbrev pub alike : {P Q : Type 0} → (P → Q) → (Q → P) → Decided P → Decided Q
 alike f g d = (d .0, tells-as f g (d .1))
+
+abbrev pub told-as : {P Q : Type 0} → ((r : Bool) → Tells P r → Tells Q r) → Decided P → Decided Q
+told-as f d = (d .0, f (d .0) (d .1))
 
 -- both hold
 abbrev pub both : {P Q : Type 0} → Decided P → Decided Q → Decided (P × Q)
@@ -121,7 +124,7 @@ gcd-all (n ∷ ns) = gcd-more (gcd-all ns) (gcd-is n (gcdAll ns))
 -- g is it where it is what is worked out, since there is one
 unfoldable pub gcdIs : (ns : List ℕ) (g : ℕ) → Decided (GcdOf ns g)
 unfolding gcdOf
-gcdIs ns g = alike (λ e. subst (GcdOf ns) e (gcd-all ns)) (λ p. gcd-unique (gcd-all ns) p) (equal (gcdAll ns) g)
+gcdIs ns g = (eqb (gcdAll ns) g, tells-gcd g (gcd-all ns))
 
 -- ---- of the first n of a list, and of the others
 abbrev pub firsts : {A : Type 0} {P : A → Type 0} → ((x : A) → Decided (P x)) → (i n : ℕ) (xs : List A) → Decided (FirstsFrom i P n xs)

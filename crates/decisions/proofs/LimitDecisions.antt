@@ -11,7 +11,8 @@ use Rattle.job.specs.declared.Stream.{Stream}
 use Rattle.job.specs.Record.{streamsOf, rowsOf}
 use Rattle.job.specs.Refusals.{First}
 use Rattle.job.specs.Limits.{Unused, Idle, Shaped, Boxed, Ruled, Sound, Rowed, limits, boundLimit, rowLimit, pointLimit, stepLimit}
-use Rattle.decisions.proofs.Decisions.{Decided, alike, both, either, equal, below, atMost, equalℤ, sized, forward, solid, gcdIs, firsts, others, first-of}
+use Rattle.job.proofs.Shapes.{tells-idle, tells-shaped, tells-sound}
+use Rattle.decisions.proofs.Decisions.{Decided, alike, told-as, both, either, equal, below, atMost, equalℤ, sized, forward, solid, gcdIs, firsts, others, first-of}
 
 -- ---- 3
 -- the coordinates from n on are 0
@@ -21,7 +22,7 @@ unused n v = others (λ (x : ℤ). equalℤ x (pos 0)) 0 n (entries v)
 -- every place of the stream is 0
 abbrev idle : (s : Stream) → Decided (Idle s)
 idle s =
-    alike (λ h. record { vector = h .0; kind = h .1 .0; rule = h .1 .1 .0; sources = h .1 .1 .1 }) (λ h. (h .vector, (h .kind, (h .rule, h .sources))))
+    told-as (λ r t. tells-idle t)
     (both (unused 0 (s .d)) (both (equal (s .kind) 0) (both (equal (s .rule) 0) (both (equal (s .a) 0) (equal (s .b) 0)))))
 
 -- from a to b
@@ -31,18 +32,7 @@ between a b n = both (atMost a n) (atMost n b)
 -- the counts are in range, and every unused place is 0
 abbrev shaped : (j : Job) → Decided (Shaped j)
 shaped j =
-    alike
-    (λ h. record {
-      dimensions = h .0 .0;
-      places = h .0 .1 .0;
-      streams = h .0 .1 .1;
-      box = h .1 .0;
-      vectors = h .1 .1 .0 .0;
-      idle = h .1 .1 .0 .1;
-      rows = h .1 .1 .1 .0;
-      idle-rows = h .1 .1 .1 .1;
-    })
-    (λ h. ((h .dimensions, (h .places, h .streams)), (h .box, ((h .vectors, h .idle), (h .rows, h .idle-rows)))))
+    told-as (λ r t. tells-shaped t)
     (both (both (between 1 4 (j .n)) (both (between 1 2 (j .k)) (between 1 4 (j .m))))
     (both (both (unused (j .n) (j .bounds .low)) (unused (j .n) (j .bounds .high)))
     (both (both (firsts (λ (s : Stream). unused (j .n) (s .d)) 0 (j .m) (streamsOf j)) (others idle 0 (j .m) (streamsOf j)))
@@ -66,9 +56,7 @@ ruled m s =
 unfoldable sound : (m : ℕ) (s : Stream) → Decided (Sound m s)
 unfolding sized forward gcdIs
 sound m s =
-    alike
-    (λ h. record { small = h .0 .0; forward = h .0 .1; coprime = h .1 .0; kind = h .1 .1 .0; ruled = h .1 .1 .1 })
-    (λ h. ((h .small, h .forward), (h .coprime, (h .kind, h .ruled))))
+    told-as (λ r t. tells-sound t)
     (both (both (sized stepLimit (entries (s .d))) (forward (entries (s .d))))
     (both (gcdIs (sizesOf (entries (s .d))) 1) (both (atMost (s .kind) 1) (ruled m s))))
 

@@ -1,13 +1,20 @@
 -- Laws of the greatest common divisor: there is one, Euclid's step keeps it, and it is found entry by entry.
-use mathlib.Core.Path.{_≡_}
+use mathlib.Core.Path.{_≡_, subst}
 use mathlib.Core.List.{List, [], _∷_}
 use Prim.Native.Nat.{ℕ, zero, suc, _%_, _<_, _≤_, _∣_}
 use native.Mathlib.Nat.{dvd-refl, dvd-zero, dvd-antisymm, dvd-mod-iff, dvd-trans, mod-lt, le-refl}
 use native.Mathlib.Omega.{arith}
+use lib.Dec.{eqb}
+use Rattle.space.specs.Numbers.{Tells}
+use Rattle.space.proofs.Telling.{tells-as, tells-eq}
 use Rattle.divisors.specs.Divisors.{Divides, GcdOf, euclid, gcdOf}
 
 pub gcd-unique : {ns : List ℕ} {g h : ℕ} → GcdOf ns g → GcdOf ns h → g ≡ h
 gcd-unique {g = g} {h} p q = dvd-antisymm (q .greatest g (p .divides)) (p .greatest h (q .divides))
+
+-- a number is it where it is the one that is known
+pub tells-gcd : {ns : List ℕ} {g : ℕ} (h : ℕ) → GcdOf ns g → Tells (GcdOf ns h) (eqb g h)
+tells-gcd {ns} {g} h p = tells-as (λ e. subst (GcdOf ns) e p) (λ q. gcd-unique p q) (tells-eq g h)
 
 pub gcd-zero : (a : ℕ) → GcdOf (a ∷ 0 ∷ []) a
 gcd-zero a = record { divides = (dvd-refl a, (dvd-zero a, tt)); greatest = λ k p. p .0 }

@@ -8,9 +8,9 @@ use lib.ListN.{length, getD, take, drop}
 use lib.Seq.{drop-cons, take-at}
 use Rattle.space.specs.declared.Vector.{Vector}
 use Rattle.space.specs.Vectors.{entries}
-use Rattle.boxes.specs.Boxes.{Side, boxOf}
+use Rattle.boxes.specs.Boxes.{boxOf}
 use Rattle.job.specs.declared.Job.{Job}
-use Rattle.layout.specs.Layout.{joined, entryBytes, vectorBytes, boxBytes}
+use Rattle.layout.specs.Layout.{joined, entryBytes, vectorBytes, boxBytes, sideBytes}
 use Rattle.layout.proofs.Injective.{joined-length}
 
 module _ {A : Type 0} (f : A → List ℕ) where
@@ -51,4 +51,4 @@ sidesOf l u = getD l 0 0 ∷ getD u 0 0 ∷ getD l 1 0 ∷ getD u 1 0 ∷ getD l
 pub box-take : (j : Job) → j .n ≤ 4 → take (2 * j .n) (sidesOf (vectorBytes 1 4 (j .bounds .low)) (vectorBytes 1 4 (j .bounds .high))) ≡ boxBytes 1 j
 unfolding boxBytes
 box-take j h =
-    rw (mul-comm 2) (joined-take (λ (s : Side). entryBytes 1 (s .low) ++ entryBytes 1 (s .high)) 2 (λ s. refl) (j .n) (boxOf (j .bounds)) h)
+    rw (mul-comm 2) (joined-take (sideBytes 1) 2 (λ s. refl) (j .n) (boxOf (j .bounds)) h)

@@ -1,11 +1,12 @@
 -- Bytes laid over the front of others, part by part, and the state of a loop that puts parts of one length.
 use mathlib.Core.Path.{_≡_, refl, sym, ap, _∙_}
 use mathlib.Core.List.{List, _++_, append-assoc, append-nil}
-use Prim.Native.Nat.{ℕ, suc, _+_, _*_, _<_, _≤_}
+use Prim.Native.Nat.{ℕ, _+_, _*_, _<_, _≤_}
 use native.Mathlib.Omega.{arith}
-use native.Mathlib.Nat.{suc-mul, add-mul, one-mul, mul-le-mul-right}
+use native.Mathlib.Nat.{add-mul, one-mul}
 use lib.ListN.{length, getD, take, length-append, take-append-drop}
 use lib.Seq.{paste, length-paste-head, take-append-seam, drop-append-add, drop-drop, length-take-le}
+use Rattle.space.proofs.Rows.{row-within}
 use Rattle.layout.specs.Layout.{joined}
 use Rattle.file.specs.Files.{over, Puts}
 use Rattle.layout.proofs.Injective.{joined-length}
@@ -48,7 +49,7 @@ module _ {A : Type 0} (f : A → List ℕ) (w : ℕ) (xs : List A) (before : Lis
 
   -- there is room for one part more
   pub room : (during : List ℕ) (i at : ℕ) → Putting f w xs before from count during i at → i < count → at + w ≤ length during
-  room during i at p h = omega (arith, mul-le-mul-right {m = suc i} {n = count} w h, suc-mul i w, p .place, p .size)
+  room during i at p h = omega (arith, row-within i count w h, p .place, p .size)
 
   -- and it is put
   pub onward : (during after : List ℕ) (i at : ℕ) (d : A) → ((x : A) → length (f x) ≡ w) → count ≤ length xs → Putting f w xs before from count during i at → i < count

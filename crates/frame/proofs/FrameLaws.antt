@@ -14,29 +14,22 @@ use Rattle.space.specs.Numbers.{Size, limit, entry, coordinate, steps}
 use Rattle.space.specs.Vectors.{entries, dotOf, Sized}
 use Rattle.boxes.specs.Boxes.{In, Solid, across, countOf, placeOf, pointOf, leastOf, greatestOf, Least, Greatest, reach}
 use Rattle.space.proofs.Ints.{size-up}
-use Rattle.space.proofs.Machine.{held, as-held}
-use Rattle.boxes.proofs.BoxLaws.{in-solid, solid-in, in-sized, point-in, place-below, steps-below, sides-sized}
+use Rattle.space.proofs.Machine.{held, held-as}
+use Rattle.boxes.proofs.BoxLaws.{in-solid, solid-in, point-in, place-below, steps-below}
 use Rattle.boxes.proofs.ExtremeLaws.{least-is, greatest-is}
 use Rattle.space.proofs.VectorLaws.{sized-up, dot-size}
 use Rattle.job.specs.declared.Job.{Job}
 use Rattle.job.specs.Limits.{Acceptable}
 use Rattle.mapping.specs.Mapping.{box, H, S}
-use Rattle.mapping.proofs.Fits.{solid, row0-sized, row1-sized, low-sized, high-sized}
+use Rattle.job.proofs.Accepting.{solid, row0-sized, row1-sized, in-box-sized}
 use Rattle.verdict.proofs.SizeLaws.{cells-are, across-small}
 use Rattle.tables.specs.Tables.{points}
 use Rattle.frame.specs.Framing.{Timed}
 use Rattle.mapping.specs.Frames.{rectangle, cells, clock, ticks, tickOf, cellOf}
 
--- ---- a small number that is read back
-pub held-limit : {z v : ℤ} → v ≡ z → Size limit z → held v ≡ z
-held-limit e p = as-held {b = limit} tt (subst (Size limit) (sym e) p) ∙ e
-
-pub held-is : {z v : ℤ} → v ≡ z → Size 8376324 z → held v ≡ z
-held-is e p = held-limit e (size-up (omega arith) p)
-
--- such a number fits where the code steps from one to the other
+-- a small number that is read back fits where the code steps from one to the other
 pub fits-limit : {z v : ℤ} → v ≡ z → Size 8376324 z → Size limit (held v)
-fits-limit e p = subst (Size limit) (sym (held-is e p)) (size-up (omega arith) p)
+fits-limit e p = subst (Size limit) (sym (held-as e p tt)) (size-up (omega arith) p)
 
 -- a place in two rows, without the ones and zeros of the definition
 flat : (r n c : ℕ) → r * (n * 1) + (c * 1 + 0) ≡ r * n + c
@@ -78,7 +71,7 @@ module _ (j : Job) (a : Acceptable j) where
 
   -- ---- the points are small
   pub point-sized : (k : ℕ) → k < points j → Sized coordinate (pointOf (box j) k)
-  point-sized k lk = in-sized coordinate (box j) (pointOf (box j) k) (sides-sized (j .bounds) (low-sized j a) (high-sized j a)) (point-in (box j) k lk)
+  point-sized k lk = in-box-sized j a (point-in (box j) k lk)
 
   -- and so are their products with a row
   pub product-sized : (h : List ℤ) → length h ≡ 4 → Sized 127 h → (k : ℕ) → k < points j → Size 8376324 (dotOf h (pointOf (box j) k))

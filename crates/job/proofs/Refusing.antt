@@ -1,5 +1,5 @@
 -- Laws of checks in order: one number alone is given, it is 0 exactly if all conditions hold, and one list of checks after another.
-use mathlib.Core.Path.{_≡_, refl, sym, _∙_}
+use mathlib.Core.Path.{_≡_, refl, sym, subst, _∙_}
 use mathlib.Core.Logic.{inl, inr}
 use Prim.Native.Nat.{ℕ}
 use native.Mathlib.Omega.{arith}
@@ -45,8 +45,8 @@ stop-first (check n P rest) ds r z (inl p) = inl (p .0, stop-first rest ds r z (
 stop-first (check n P rest) ds r z (inr p) = inr p
 
 -- a record is acceptable exactly if no limit refuses it
-pub accepted : (j : Job) → First (limits j) 0 → Acceptable j
-accepted j f = by (first-passes (limits j) ((λ e. omega arith), ((λ e. omega arith), ((λ e. omega arith), ((λ e. omega arith), tt)))) f)
+pub accepted : (j : Job) {r : ℕ} → r ≡ 0 → First (limits j) r → Acceptable j
+accepted j e f = by (first-passes (limits j) ((λ e. omega arith), ((λ e. omega arith), ((λ e. omega arith), ((λ e. omega arith), tt)))) (subst (First (limits j)) e f))
   where
     by : Passes (limits j) → Acceptable j
     by p = record { shaped = p .0; boxed = p .1 .0; sound = p .1 .1 .0; rowed = p .1 .1 .1 .0 }

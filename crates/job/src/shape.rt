@@ -49,7 +49,7 @@ fn stream_shaped(s: Stream, n: u8, used: bool) -> bool
     ensures { λ r. ⌜ Tells ((used ≡ true → Unused n (s .d)) × ((used ≡ true → ⊥) → Idle s)) r ⌝ }
 {
     let d = s.d;
-    (!used | is_unused(d, n)) & (!!used | is_idle(s))
+    (!used | is_unused(d, n)) & (used | is_idle(s))
 }
 
 // The same of every stream.
@@ -71,7 +71,7 @@ fn streams_shaped(j: Job) -> bool
 fn row_shaped(v: Vector, n: u8, used: bool) -> bool
     ensures { λ r. ⌜ Tells ((used ≡ true → Unused n v) × ((used ≡ true → ⊥) → Unused 0 v)) r ⌝ }
 {
-    (!used | is_unused(v, n)) & (!!used | is_unused(v, 0))
+    (!used | is_unused(v, n)) & (used | is_unused(v, 0))
 }
 
 // The same of every row.

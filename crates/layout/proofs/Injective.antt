@@ -17,7 +17,7 @@ use Rattle.job.specs.declared.Stream.{Stream}
 use Rattle.job.specs.declared.Job.{Job}
 use Rattle.job.specs.Record.{streamsOf, rowsOf, FirstsFrom, OthersFrom, Firsts, Others}
 use Rattle.job.specs.Limits.{Shaped, Unused, Idle}
-use Rattle.layout.specs.Layout.{joined, entryBytes, vectorBytes, streamBytes, totalOf, headerOf, boxBytes, streamsBytes, matrixBytes, fileOf, InByte, Held, Lays}
+use Rattle.layout.specs.Layout.{joined, entryBytes, vectorBytes, streamBytes, totalOf, headerOf, boxBytes, streamsBytes, matrixBytes, fileOf, InByte, Held, Lays, sideBytes}
 use Rattle.layout.proofs.Entries.{below-256, byte-injective}
 
 -- ---- lengths
@@ -39,10 +39,6 @@ vector-length n h v = omega (arith, joined-length (entryBytes 1) 1 (λ z. refl) 
 pub stream-length : (n : ℕ) → n ≤ 4 → (s : Stream) → length (streamBytes 1 n s) ≡ n + 4
 stream-length n h s = omega (arith, length-append (vectorBytes 1 n (s .d)) (s .kind ∷ s .rule ∷ s .a ∷ s .b ∷ []), vector-length n h (s .d))
 
--- the bytes of the bounds of one dimension
-abbrev sideBytes : Side → List ℕ
-sideBytes s = entryBytes 1 (s .low) ++ entryBytes 1 (s .high)
-
 -- the lengths of the four parts of a file
 pub header-length : (n k m : ℕ) → length (headerOf 1 n k m) ≡ 16
 unfolding headerOf
@@ -51,7 +47,7 @@ header-length n k m = refl
 module _ (j : Job) (p : Shaped j) where
   pub box-length : length (boxBytes 1 j) ≡ j .n * 2
   unfolding boxBytes
-  box-length = joined-length sideBytes 2 (λ s. refl) (j .n) (boxOf (j .bounds)) (p .dimensions .1)
+  box-length = joined-length (sideBytes 1) 2 (λ s. refl) (j .n) (boxOf (j .bounds)) (p .dimensions .1)
 
   pub streams-length : length (streamsBytes 1 j) ≡ j .m * (j .n + 4)
   unfolding streamsBytes
@@ -156,7 +152,7 @@ side-same : {l u l′ u′ : ℤ} → l ≡ l′ → u ≡ u′ → _≡_ {A = S
 side-same e f = rw (e, f)
 
 -- the bounds of a dimension are told by their bytes
-side-used : (s t : Side) → HeldSide s → HeldSide t → sideBytes s ≡ sideBytes t → s ≡ t
+side-used : (s t : Side) → HeldSide s → HeldSide t → sideBytes 1 s ≡ sideBytes 1 t → s ≡ t
 side-used s t h k e =
     let r = append-parts (entryBytes 1 (s .low)) (entryBytes 1 (t .low)) (entryBytes 1 (s .high)) (entryBytes 1 (t .high)) refl e in
     side-same (entry-used (s .low) (t .low) (h .0) (k .0) (r .0)) (entry-used (s .high) (t .high) (h .1) (k .1) (r .1))
@@ -272,7 +268,7 @@ module _ (j j′ : Job) (s : List ℕ) (l : Lays j s) (l′ : Lays (recounted j 
   unfolding boxBytes
   bounds-unique =
       box-same (j .bounds) (j′ .bounds)
-      (joined-unique sideBytes 2 HeldSide EmptySide (λ t. refl) side-used side-unused (j .n) (boxOf (j .bounds)) (boxOf (j′ .bounds)) refl
+      (joined-unique (sideBytes 1) 2 HeldSide EmptySide (λ t. refl) side-used side-unused (j .n) (boxOf (j .bounds)) (boxOf (j′ .bounds)) refl
       (held-sides (j .n) (j .bounds) (l .low) (l .high)) (held-sides (j .n) (j′ .bounds) (l′ .low) (l′ .high))
       (empty-sides (j .n) (j .bounds) (l .shaped .box .0) (l .shaped .box .1)) (empty-sides (j .n) (j′ .bounds) (l′ .shaped .box .0) (l′ .shaped .box .1))
       (parts-same .0))

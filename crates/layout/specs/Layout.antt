@@ -48,8 +48,11 @@ headerOf e n k m =
     ++ littleEndian 2 (totalOf e n k m) ++ littleEndian 2 0
 
 -- 'Box: l, u for each dimension'
+abbrev pub sideBytes : ℕ → Side → List ℕ
+sideBytes e s = entryBytes e (s .low) ++ entryBytes e (s .high)
+
 unfoldable pub boxBytes : ℕ → Job → List ℕ
-boxBytes e j = joined (λ (s : Side). entryBytes e (s .low) ++ entryBytes e (s .high)) (j .n) (boxOf (j .bounds))
+boxBytes e j = joined (sideBytes e) (j .n) (boxOf (j .bounds))
 
 abbrev pub vectorBytes : ℕ → ℕ → Vector → List ℕ
 vectorBytes e n v = joined (entryBytes e) n (entries v)

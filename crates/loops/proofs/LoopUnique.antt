@@ -1,16 +1,17 @@
 -- The loop has one result: at most one table keeps the loop's equation, and at most one reply with one table is right.
-use mathlib.Core.Path.{_≡_, sym, ap, _∙_}
+use mathlib.Core.Path.{_≡_, refl, sym, ap, _∙_}
 use mathlib.Core.List.{List}
 use Prim.Native.Nat.{ℕ, zero, suc, _<_, _≤_}
 use native.Mathlib.Nat.{le-of-suc-le}
 use native.Mathlib.Omega.{arith}
 use borrow.Author.Count.{below-none, below-more}
+use lib.ListN.{length}
 use Rattle.job.specs.declared.Job.{Job}
-use Rattle.job.specs.Refusals.{First}
-use Rattle.job.specs.Limits.{Acceptable}
-use Rattle.job.proofs.Refusing.{first-unique, Passes, first-passes}
+use Rattle.job.specs.Refusals.{done, check, First}
+use Rattle.job.specs.Limits.{limits, Acceptable}
+use Rattle.job.proofs.Refusing.{first-unique, accepted, then-passed}
 use Rattle.reader.proofs.Theorems.{of-bytes-unique}
-use Rattle.tables.specs.Tables.{points, entryFor}
+use Rattle.tables.specs.Tables.{points, entryFor, Long}
 use Rattle.loops.specs.Loops.{Looped, loopChecks, Loops}
 use Rattle.loops.specs.LoopBytes.{LoopsOf}
 use Rattle.loops.specs.declared.Reply.{Reply}
@@ -41,10 +42,7 @@ module _ (j : Job) (a : Acceptable j) (input v w : List ℕ) (p : Looped j input
 
 -- a job whose tables are taken is acceptable
 taken : (j : Job) (input values : List ℕ) → First (loopChecks j input values) 0 → Acceptable j
-taken j input values f = by (first-passes (loopChecks j input values) ((λ e. omega arith), ((λ e. omega arith), ((λ e. omega arith), ((λ e. omega arith), ((λ e. omega arith), tt))))) f)
-  where
-    by : Passes (loopChecks j input values) → Acceptable j
-    by p = record { shaped = p .0; boxed = p .1 .0; sound = p .1 .1 .0; rowed = p .1 .1 .1 .0 }
+taken j input values f = accepted j refl (then-passed (limits j) (check 13 (Long j (length input) (length values)) done) f)
 
 -- at most one reply, with one table, is right
 pub loops-unique : (j : Job) (input before after after′ : List ℕ) (r r′ : Reply) → Loops j input before after r → Loops j input before after′ r′ → (r ≡ r′) × (after ≡ after′)

@@ -16,7 +16,7 @@ use Rattle.space.specs.Vectors.{entries, plusOf, Sized}
 use Rattle.space.specs.Order.{Before, AtMost, Forward}
 use Rattle.boxes.specs.Boxes.{Box, boxOf, In, Apart, Solid, countOf, placeOf, pointOf}
 use Rattle.space.proofs.Parts.{int, sum}
-use Rattle.boxes.proofs.BoxLaws.{SidesSized, sides-sized, in-sized, across-size, in-length, lowsOf, solid-in, place-below, point-in, place-point, point-place, place-injective, before-place, place-before}
+use Rattle.boxes.proofs.BoxLaws.{SidesSized, inside-sized, stands-in, across-size, in-length, lowsOf, solid-in, place-below, place-point, point-place, place-injective, before-place, place-before}
 use Rattle.job.specs.declared.Job.{Job}
 use Rattle.mapping.specs.Searches.{Finds-gap, MeetsSome, MetAt}
 use Rattle.mapping.specs.declared.walk.Met.{Met}
@@ -76,10 +76,7 @@ count-most (s ∷ ss) w = mul-le-mul (across-size s (w .0) (w .1)) (count-most s
 
 -- and each is as small as the bounds
 pub gap-sized : (d : Bounds) (i : ℕ) (y : List ℤ) → Sized difference (entries (d .low)) → Sized difference (entries (d .high)) → i < countOf (boxOf d) → y ≡ pointOf (boxOf d) i → Sized difference y
-gap-sized d i y l u k e = subst (Sized difference) (sym e) (in-sized difference (boxOf d) (pointOf (boxOf d) i) (sides-sized d l u) (point-in (boxOf d) i k))
-
-pub gap-in : (D : Box) (i : ℕ) (y : List ℤ) → i < countOf D → y ≡ pointOf D i → In D y
-gap-in D i y k e = subst (In D) (sym e) (point-in D i k)
+gap-sized d i y l u k e = inside-sized d l u (stands-in (boxOf d) i k e)
 
 -- ---- D is the box of the differences of two points of B
 pub record Spread (B D : Box) : Type 0 where
@@ -133,7 +130,7 @@ module _ (P : List ℤ → Type 0) (B D : Box) (d : Spread B D) where
       x = entries y
 
       inside : In D x
-      inside = subst (In D) (sym e) (point-in D i k)
+      inside = stands-in D i k e
 
       place : placeOf D x ≡ i
       place = ap (placeOf D) e ∙ place-point D i k

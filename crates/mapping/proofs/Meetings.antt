@@ -17,7 +17,7 @@ use Rattle.divisors.specs.Multiples.{Answers}
 use Rattle.divisors.specs.declared.multiple.Multiple.{Multiple}
 use Rattle.divisors.specs.declared.multiple.Multiple.the-variants as Multiple
 use Rattle.divisors.proofs.multiple.Multiple.{the-type}
-use Rattle.space.proofs.Machine.{Half, Is, arg, quot}
+use Rattle.space.proofs.Machine.{arg, quot}
 use Rattle.space.proofs.VectorLaws.{four, unfour}
 use Rattle.space.proofs.Telling.{tells-as, tells-and, tells-le, tells-below}
 use Rattle.divisors.proofs.MultipleLaws.{times-cancel}
@@ -69,10 +69,6 @@ gcd-small (suc a) b most p h k = let l = le-of-dvd (omega arith) (p .divides .0)
 or-one-small : {most : ℕ} (n : ℕ) → 1 ≤ most → n ≤ most → orOne n ≤ most
 or-one-small zero h k = h
 or-one-small (suc n) h k = k
-
--- what a goal shows as v is the number z
-pub known : {b : ℕ} {z v : ℤ} → v ≡ z → Size b z → Half b → Is b z v
-known e p t = record { is = e; sized = p; half = arg p t .half }
 
 -- w and e as one vector
 abbrev pub unit-of : Job → ℕ → List ℤ

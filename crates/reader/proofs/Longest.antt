@@ -3,29 +3,21 @@ use mathlib.Core.Path.{_≡_, sym, ap, ap₂, subst, _∙_}
 use mathlib.Core.Logic.{inl, inr}
 use mathlib.Core.List.{List}
 use Prim.Native.Nat.{ℕ, _+_, _*_, _<_, _≤_}
-use native.Mathlib.Nat.{mul-le-mul}
 use native.Mathlib.Omega.{arith}
 use lib.ListN.{length, take}
 use lib.Seq.{getD-take, length-take-le}
 use Rattle.job.specs.declared.Job.{Job}
 use Rattle.job.specs.Refusals.{First}
 use Rattle.job.specs.Limits.{Shaped}
-use Rattle.layout.specs.Layout.{totalOf, fileOf}
+use Rattle.layout.specs.Layout.{fileOf}
 use Rattle.layout.proofs.Injective.{file-length}
+use Rattle.layout.proofs.Totals.{total-small}
 use Rattle.header.specs.Header.{at, pairAt, Counted, Placed}
 use Rattle.reader.specs.Reading.{fileChecks, Reads}
 use Rattle.reader.specs.declared.Reply.{Reply}
 use Rattle.reader.specs.declared.Reply.the-variants as R
 
 -- ---- the longest job
--- counts in range
-total-small : (n k m : ℕ) → n ≤ 4 → k ≤ 2 → m ≤ 4 → totalOf 1 n k m ≤ 68
-total-small n k m hn hk hm =
-    let p : 1 * n + 4 ≤ 8 = omega arith in
-    let q : 1 + k ≤ 3 = omega arith in
-    let o : 1 * n ≤ 4 = omega arith in
-    omega (arith, mul-le-mul hm p, mul-le-mul q o)
-
 pub longest : (j : Job) → Shaped j → length (fileOf j) ≤ 68
 longest j a = let t = total-small (j .n) (j .k) (j .m) (a .dimensions .1) (a .places .1) (a .streams .1) in omega (arith, file-length j a)
 

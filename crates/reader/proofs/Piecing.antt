@@ -10,11 +10,11 @@ use lib.Seq.{take-all, length-take-le}
 use Rattle.space.specs.declared.Vector.{Vector}
 use Rattle.boxes.specs.declared.Bounds.{Bounds}
 use Rattle.space.specs.Vectors.{entries}
-use Rattle.boxes.specs.Boxes.{Side, boxOf}
+use Rattle.boxes.specs.Boxes.{boxOf}
 use Rattle.space.proofs.Parts.{int}
 use Rattle.job.specs.Record.{zeroVector}
 use Rattle.job.specs.Limits.{Unused}
-use Rattle.layout.specs.Layout.{complement, entryBytes, InByte, Held}
+use Rattle.layout.specs.Layout.{complement, entryBytes, InByte, Held, sideBytes}
 use Rattle.layout.proofs.Entries.{below-256, byte-injective}
 use Rattle.header.specs.Header.{at}
 use Rattle.reader.specs.Pieces.{part, EntryAt, EntriesAt, VectorIn, BoxIn, StreamIn}
@@ -71,7 +71,7 @@ module _ (l : List ℕ) (b : Bounds) (n : ℕ) (most : n ≤ 4) (size : length l
   pub box-in : EntriesAt l 0 2 4 6 (b .low) → EntriesAt l 1 3 5 7 (b .high) → BoxIn n l b
   box-in d e = record {
     bytes =
-        joined-parts (λ (s : Side). entryBytes 1 (s .low) ++ entryBytes 1 (s .high)) l 0 2 n (boxOf b)
+        joined-parts (sideBytes 1) l 0 2 n (boxOf b)
         (side 0 (d .x0) (e .x0), (side 1 (d .x1) (e .x1), (side 2 (d .x2) (e .x2), (side 3 (d .x3) (e .x3), most))))
         ∙ take-all (n * 2) l (omega arith);
     unused = (

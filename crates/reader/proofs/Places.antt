@@ -2,7 +2,7 @@
 use mathlib.Core.Path.{_≡_, refl, ap, _∙_}
 use mathlib.Core.List.{List, [], _∷_, _++_}
 use Prim.Native.Nat.{ℕ, zero, suc, _+_, _*_, _/_, _%_, _≤_, _<_}
-use native.Mathlib.Nat.{suc-mul, zero-mul, mul-le-mul-right}
+use native.Mathlib.Nat.{suc-mul, zero-mul}
 use native.Mathlib.Omega.{arith}
 use lib.ListN.{length, take, drop}
 use lib.Seq.{drop-cons, drop-drop, take-add}
@@ -57,7 +57,3 @@ pair-bytes a b x p q e = omega arith
 -- and back
 pub pair-value : (x : ℕ) → x < 65536 → x % 256 + 256 * (x / 256 % 256) ≡ x
 pair-value x h = omega arith
-
--- one of m parts of a width is within them all
-pub within : (i m w : ℕ) → i < m → i * w + w ≤ m * w
-within i m w h = omega (arith, mul-le-mul-right {m = suc i} {n = m} w h, suc-mul i w)

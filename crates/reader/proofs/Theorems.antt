@@ -2,8 +2,7 @@
 use mathlib.Core.Path.{_≡_, refl, sym, ap, subst, _∙_}
 use mathlib.Core.Logic.{inl, inr}
 use mathlib.Core.List.{List}
-use Prim.Native.Nat.{ℕ, _+_, _*_, _<_, _≤_}
-use native.Mathlib.Nat.{mul-le-mul}
+use Prim.Native.Nat.{ℕ, _+_, _<_, _≤_}
 use native.Mathlib.Decide.{decLe}
 use native.Mathlib.Omega.{arith}
 use Rattle.space.specs.declared.Vector.{Vector}
@@ -13,27 +12,22 @@ use Rattle.job.specs.declared.Job.{Job}
 use Rattle.job.specs.Refusals.{First}
 use Rattle.job.specs.Limits.{Unused, Idle, Shaped, Sound, Acceptable}
 use Rattle.job.proofs.Refusing.{first-unique, acceptable}
-use Rattle.layout.specs.Layout.{streamsFrom, matricesFrom, totalOf, headerOf, fileOf, InByte, Held, Lays}
+use Rattle.job.proofs.Accepting.{empty-sized}
+use Rattle.layout.specs.Layout.{streamsFrom, matricesFrom, totalOf, headerOf, fileOf, Held, Lays}
 use Rattle.layout.proofs.Entries.{sized-held}
 use Rattle.layout.proofs.Injective.{lays-unique, file-length}
+use Rattle.layout.proofs.Totals.{total-small}
 use Rattle.reader.specs.Reading.{fileChecks, Reads, OfBytes}
 use Rattle.reader.specs.Pieces.{Headed}
 use Rattle.reader.specs.declared.Reply.{Reply}
 use Rattle.reader.specs.declared.Reply.the-variants as R
 use Rattle.reader.proofs.Places.{pair-value}
-use Rattle.reader.proofs.Piecing.{zero-held}
 use Rattle.reader.proofs.Replying.{record-first}
 
 -- ---- an acceptable job's entries are held in bytes
 -- a vector that is not used
 unused-held : (v : Vector) → Unused 0 v → Held v
-unused-held v u =
-    record {
-      x0 = subst InByte (sym (u .0 (omega arith))) zero-held;
-      x1 = subst InByte (sym (u .1 .0 (omega arith))) zero-held;
-      x2 = subst InByte (sym (u .1 .1 .0 (omega arith))) zero-held;
-      x3 = subst InByte (sym (u .1 .1 .1 .0 (omega arith))) zero-held;
-    }
+unused-held v u = sized-held {b = 0} (omega arith) (empty-sized 0 v u)
 
 -- a place is used or not
 by-place : {P : Type 0} (i n : ℕ) → (i < n → P) → (n ≤ i → P) → P
@@ -74,11 +68,7 @@ acceptable-lays j s a e =
 module _ (j : Job) (a : Shaped j) where
   -- the total, and with it each offset, is small
   small-total : totalOf 1 (j .n) (j .k) (j .m) < 65536
-  small-total =
-      let p : 1 * j .n + 4 ≤ 8 = omega (arith, a .dimensions) in
-      let q : 1 + j .k ≤ 3 = omega (arith, a .places) in
-      let n : 1 * j .n ≤ 4 = omega (arith, a .dimensions) in
-      omega (arith, mul-le-mul (a .streams .1) p, mul-le-mul q n, a .dimensions)
+  small-total = omega (arith, total-small _ _ _ (a .dimensions .1) (a .places .1) (a .streams .1))
 
   -- the header passes
   pub file-headed : Headed (fileOf j)

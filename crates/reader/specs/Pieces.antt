@@ -1,16 +1,16 @@
 -- What the reader's private functions answer, of the bytes that they read: each piece is said by its bytes in the layout.
 use mathlib.Core.Path.{_≡_}
-use mathlib.Core.List.{List, _++_}
+use mathlib.Core.List.{List}
 use Prim.Native.Nat.{ℕ, _+_, _*_, _≤_, _<_}
 use lib.IntN.{ℤ}
 use lib.ListN.{length, take, drop}
 use Rattle.space.specs.declared.Vector.{Vector}
 use Rattle.boxes.specs.declared.Bounds.{Bounds}
-use Rattle.boxes.specs.Boxes.{Side, boxOf}
+use Rattle.boxes.specs.Boxes.{boxOf}
 use Rattle.job.specs.declared.Stream.{Stream}
 use Rattle.job.specs.Record.{noStream, zeroVector}
 use Rattle.job.specs.Limits.{Unused}
-use Rattle.layout.specs.Layout.{complement, entryBytes, joined, vectorBytes, streamBytes, streamsFrom, matricesFrom, InByte, Held}
+use Rattle.layout.specs.Layout.{complement, joined, vectorBytes, streamBytes, streamsFrom, matricesFrom, InByte, Held, sideBytes}
 use Rattle.header.specs.Header.{at, pairAt, Counted, Placed}
 
 -- the w bytes from a place on
@@ -45,7 +45,7 @@ pub record VectorIn (n : ℕ) (l : List ℕ) (v : Vector) : Type 0 where
 
 -- l are the bytes of b, a box of n dimensions
 pub record BoxIn (n : ℕ) (l : List ℕ) (b : Bounds) : Type 0 where
-  pub bytes : joined (λ (s : Side). entryBytes 1 (s .low) ++ entryBytes 1 (s .high)) n (boxOf b) ≡ l
+  pub bytes : joined (sideBytes 1) n (boxOf b) ≡ l
   pub unused : Unused n (b .low) × Unused n (b .high)
   pub held : Held (b .low) × Held (b .high)
 

@@ -3,9 +3,10 @@ use mathlib.Core.Path.{_≡_, refl, sym, _∙_}
 use mathlib.Core.Logic.{inl, inr}
 use mathlib.Core.List.{List, []}
 use Prim.Native.Nat.{ℕ, _+_, _*_, _-_, _<_, _≤_}
-use native.Mathlib.Nat.{mul-le-mul, add-sub-cancel-left}
+use native.Mathlib.Nat.{add-sub-cancel-left}
 use native.Mathlib.Omega.{arith}
 use lib.ListN.{length, take, drop}
+use Rattle.space.proofs.Rows.{row-within}
 use Rattle.job.specs.declared.Job.{Job}
 use Rattle.job.specs.Refusals.{First}
 use Rattle.job.specs.Limits.{limits, Acceptable}
@@ -17,7 +18,7 @@ use Rattle.rows.specs.Rows.{Row, RowOf}
 module _ (j : Job) (n : ℕ) (e : n ≡ points j) (s : ℕ) (h : s < j .m) where
   -- a row ends within the table
   pub row-end : s * n + n ≤ j .m * points j
-  row-end = omega (arith, mul-le-mul {n₁ = s + 1} {m₁ = n} {n₂ = j .m} {m₂ = points j} (omega arith) (omega arith))
+  row-end = rw e (row-within s (j .m) (points j) h)
 
   -- the part that is lent is the row
   pub has-row : (table : List ℕ) → Acceptable j → length table ≡ j .m * points j → Row j table s (take (s * n + n - s * n) (drop (s * n) table))

@@ -1,8 +1,8 @@
 -- Places in rows of n: row and place in the row are told by the number, a place that is not written to stays, and a list of rows is told by its places.
 use mathlib.Core.Path.{_≡_, sym, ap, _∙_}
 use mathlib.Core.List.{List}
-use Prim.Native.Nat.{ℕ, zero, suc, _+_, _*_, _/_, _%_, _<_}
-use native.Mathlib.Nat.{div-add-mod', mod-lt, div-lt-iff-lt-mul}
+use Prim.Native.Nat.{ℕ, zero, suc, _+_, _*_, _/_, _%_, _<_, _≤_}
+use native.Mathlib.Nat.{div-add-mod', mod-lt, div-lt-iff-lt-mul, mul-le-mul-right, suc-mul}
 use native.Mathlib.Omega.{arith}
 use lib.Arith.{digits-div, digits-mod}
 use lib.ListN.{length, getD, set}
@@ -16,6 +16,10 @@ spots n x y r q lr lq e =
 -- a place that is not written to is as before
 pub other-spot : (n x y r q v : ℕ) (l : List ℕ) → r < n → q < n → (y ≡ x → q ≡ r → ⊥) → getD (set l (x * n + r) v) (y * n + q) 0 ≡ getD l (y * n + q) 0
 other-spot n x y r q v l lr lq ne = getD-set-other l (x * n + r) (y * n + q) v 0 (λ e. let i = spots n x y r q lr lq e in ne (i .0) (i .1))
+
+-- one of m rows ends within them all
+pub row-within : (i m n : ℕ) → i < m → i * n + n ≤ m * n
+row-within i m n h = omega (arith, mul-le-mul-right {m = suc i} {n = m} n h, suc-mul i n)
 
 -- two lists of m rows that hold the same at every place are the same
 pub rows-same : (m n : ℕ) (v w : List ℕ) → length v ≡ m * n → length w ≡ m * n → ((x r : ℕ) → x < m → r < n → getD v (x * n + r) 0 ≡ getD w (x * n + r) 0) → v ≡ w

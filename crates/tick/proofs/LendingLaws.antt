@@ -18,7 +18,7 @@ use Rattle.boxes.proofs.BackLaws.{back-below}
 use Rattle.job.specs.declared.Job.{Job}
 use Rattle.job.specs.Limits.{Acceptable}
 use Rattle.mapping.specs.Mapping.{hop}
-use Rattle.mapping.proofs.Fits.{row0-sized, row1-sized}
+use Rattle.job.proofs.Accepting.{row0-sized, row1-sized}
 use Rattle.mapping.proofs.Meetings.{unit-sized}
 use Rattle.bands.specs.Bands.{rectangleOf, at, arrivalIn, Shaped, Lent}
 use Rattle.bands.specs.declared.Band.{Band}

@@ -17,8 +17,7 @@ use Rattle.job.specs.declared.Job.{Job}
 use Rattle.job.specs.Limits.{Acceptable}
 use Rattle.mapping.specs.Mapping.{along, H, hops, delay, delays, box}
 use Rattle.verdict.specs.Rules.{Ahead}
-use Rattle.job.proofs.Accepting.{stream-sound}
-use Rattle.mapping.proofs.Fits.{time-sized, low-sized, high-sized, solid}
+use Rattle.job.proofs.Accepting.{stream-sound, time-sized, low-sized, high-sized, solid}
 use Rattle.boxes.proofs.ExtremeLaws.{least-is, greatest-is, ends-small}
 use Rattle.mapping.specs.Frames.{cells}
 use native.Mathlib.Omega.{arith}

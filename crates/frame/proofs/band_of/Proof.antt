@@ -5,10 +5,10 @@ use lib.IntN.{natAbs}
 use Rattle.space.specs.Vectors.{entries}
 use Rattle.boxes.specs.Boxes.{side}
 use Rattle.space.proofs.VectorLaws.{two, unfour}
-use Rattle.mapping.proofs.Fits.{row0-sized, row1-sized}
+use Rattle.job.proofs.Accepting.{row0-sized, row1-sized}
 use Rattle.mapping.proofs.Meetings.{unit-sized}
 use Rattle.verdict.proofs.SizeLaws.{delay-up, small-ends}
-use Rattle.frame.proofs.FrameLaws.{held-limit, held-is}
+use Rattle.space.proofs.Machine.{held-as}
 use Rattle.frame.proofs.band_of.Statement.{statement}
 use Rattle.frame.proofs.band_of.Tie as tie
 
@@ -28,9 +28,9 @@ returns c =
     let u = unfour (c .before .before .before .before .before .before .course-of .ensures .unit) in
     let z = unit-sized (g .j) (g .s) a (p .4) .each in
     record {
-      rectangle = two (ap₂ side (held-is (p .2 .low) (s0 .0)) (held-is (p .2 .high) (s0 .1))) (ap₂ side (held-is (p .3 .low) (s1 .0)) (held-is (p .3 .high) (s1 .1)));
-      hop = two (held-limit (u .1) (z .1 .0)) (held-limit (u .2) (z .1 .1 .0));
-      delay = c .before .before .before .size .ensures ∙ ap natAbs (held-limit (u .0) (z .0)) ∙ delay-up (g .j) (g .s) (p .1 (g .s) (p .4));
+      rectangle = two (ap₂ side (held-as (p .2 .low) (s0 .0) tt) (held-as (p .2 .high) (s0 .1) tt)) (ap₂ side (held-as (p .3 .low) (s1 .0) tt) (held-as (p .3 .high) (s1 .1) tt));
+      hop = two (held-as (u .1) (z .1 .0) tt) (held-as (u .2) (z .1 .1 .0) tt);
+      delay = c .before .before .before .size .ensures ∙ ap natAbs (held-as (u .0) (z .0) tt) ∙ delay-up (g .j) (g .s) (p .1 (g .s) (p .4));
     }
 
 pub band-of-spec : {M : Type 1} → statement M

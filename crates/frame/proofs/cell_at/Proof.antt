@@ -6,14 +6,14 @@ use native.Mathlib.Omega.{arith}
 use Rattle.space.specs.Numbers.{difference, steps}
 use Rattle.space.specs.Vectors.{entries, dotOf, Sized}
 use Rattle.boxes.specs.Boxes.{pointOf, leastOf}
-use Rattle.space.proofs.Machine.{fits-under}
+use Rattle.space.proofs.Machine.{fits-under, held-as}
 use Rattle.space.proofs.VectorLaws.{sized-up, unfour}
 use Rattle.boxes.proofs.BoxLaws.{steps-size}
 use Rattle.mapping.specs.Mapping.{box}
 use Rattle.mapping.specs.Courses.{placed}
-use Rattle.mapping.proofs.Fits.{row0-sized, row1-sized}
+use Rattle.job.proofs.Accepting.{row0-sized, row1-sized}
 use Rattle.mapping.specs.Frames.{cellOf}
-use Rattle.frame.proofs.FrameLaws.{held-is, fits-limit, point-sized, product-sized, cell-below, cell-is, cells-small}
+use Rattle.frame.proofs.FrameLaws.{fits-limit, point-sized, product-sized, cell-below, cell-is, cells-small}
 use Rattle.verdict.proofs.SizeLaws.{small-ends, across-small}
 use Rattle.frame.proofs.cell_at.Statement.{statement}
 use Rattle.frame.proofs.cell_at.Tie as tie
@@ -50,7 +50,7 @@ row c =
     let p = c .before .before .before .before .pre in
     let h = entries (a .j .row0) in
     let z = row0-sized (a .j) (p .0) in
-    c .steps-above .ensures ∙ ap₂ steps (held-is (p .1 .low0) (small-ends (a .j) (p .0) h refl z .0)) (held-is (first (c .before .before .before)) (product-sized (a .j) (p .0) h refl z (a .k) (p .2)))
+    c .steps-above .ensures ∙ ap₂ steps (held-as (p .1 .low0) (small-ends (a .j) (p .0) h refl z .0) tt) (held-as (first (c .before .before .before)) (product-sized (a .j) (p .0) h refl z (a .k) (p .2)) tt)
 
 mul-result : tie.Need-mul-result
 mul-result c =
@@ -76,7 +76,7 @@ cell c =
     let p = c .before .before .before .before .before .before .before .before .pre in
     let h = entries (a .j .row1) in
     let z = row1-sized (a .j) (p .0) in
-    let column = c .steps-above2 .ensures ∙ ap₂ steps (held-is (p .1 .low1) (small-ends (a .j) (p .0) h refl z .0)) (held-is (second (c .before .before .before .before .before .before .before)) (product-sized (a .j) (p .0) h refl z (a .k) (p .2))) in
+    let column = c .steps-above2 .ensures ∙ ap₂ steps (held-as (p .1 .low1) (small-ends (a .j) (p .0) h refl z .0) tt) (held-as (second (c .before .before .before .before .before .before .before)) (product-sized (a .j) (p .0) h refl z (a .k) (p .2)) tt) in
     ap₂ (λ (x y : ℕ). x + y) (ap₂ (λ (x y : ℕ). x * y) (row (c .before .before .before .before)) (p .1 .columns)) column ∙ sym (cell-is (a .j) (p .0) (a .k))
 
 add-result : tie.Need-add-result

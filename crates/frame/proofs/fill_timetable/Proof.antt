@@ -9,7 +9,9 @@ use Rattle.boxes.specs.Boxes.{pointOf, PointAt}
 use Rattle.mapping.specs.Mapping.{box}
 use Rattle.tables.specs.Tables.{points as pointsOf}
 use Rattle.tables.proofs.TableLaws.{few-points}
-use Rattle.mapping.proofs.Fits.{walkable, some-point, stands-in}
+use Rattle.job.proofs.Accepting.{walkable}
+use Rattle.boxes.proofs.BoxLaws.{stands-in}
+use Rattle.mapping.proofs.Fits.{some-point}
 use Rattle.frame.specs.Framing.{Timed}
 use Rattle.frame.proofs.FrameLaws.{timed-step}
 use Rattle.frame.proofs.fill_timetable.Statement.{statement}
@@ -48,7 +50,7 @@ slice-write-timetable c = omega (arith, below (c .before), c .before .before .lo
 next-requires : tie.Need-next-requires Inv-loop μ-loop
 next-requires c κs =
     let w = walkable (c .before .before .before .before .before .before .pre .0) in
-    (w .0, w .1, stands-in (c .before .before .before .before .before .before .args .j) (c .before .before .loop .k) (below (c .before)) (stands (c .before)))
+    (w .0, w .1, stands-in _ (c .before .before .loop .k) (below (c .before)) (stands (c .before)))
 
 add-k : tie.Need-add-k Inv-loop μ-loop
 add-k c = omega (arith, below (c .before .before), few-points (c .before .before .before .before .before .before .before .pre .0))

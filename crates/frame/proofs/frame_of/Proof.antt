@@ -4,10 +4,9 @@ use Prim.Native.Nat.{ℕ, _*_}
 use native.Mathlib.Nat.{mul-le-mul, le-trans, le-of-eq}
 use native.Mathlib.Omega.{arith}
 use Rattle.space.specs.Vectors.{entries}
-use Rattle.space.proofs.Machine.{fits-under}
+use Rattle.space.proofs.Machine.{fits-under, held-as}
 use Rattle.space.proofs.VectorLaws.{sized-up}
-use Rattle.mapping.proofs.Fits.{solid, time-sized, row0-sized, row1-sized, low-sized, high-sized, walkable}
-use Rattle.frame.proofs.FrameLaws.{held-is}
+use Rattle.job.proofs.Accepting.{solid, time-sized, row0-sized, row1-sized, low-sized, high-sized, walkable}
 use Rattle.verdict.proofs.SizeLaws.{small-ends, across-small, cells-are}
 use Rattle.frame.proofs.frame_of.Statement.{statement}
 use Rattle.frame.proofs.frame_of.Tie as tie
@@ -61,9 +60,9 @@ returns c =
     let s2 = small-ends j a (entries (j .time)) refl (time-sized j a) in
     record {
       points = c .before .before .before .before .before .before .count .ensures;
-      start = held-is (clock .low) (s2 .0);
-      low0 = held-is (first .low) (s0 .0);
-      low1 = held-is (second .low) (s1 .0);
+      start = held-as (clock .low) (s2 .0) tt;
+      low0 = held-as (first .low) (s0 .0) tt;
+      low1 = held-as (second .low) (s1 .0) tt;
       columns = second .count;
       cells = ap₂ (λ (x y : ℕ). x * y) (first .count) (second .count) ∙ sym (cells-are j);
       bands = c .before .before .before .bands-of .ensures;

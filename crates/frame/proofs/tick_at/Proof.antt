@@ -6,9 +6,10 @@ use Rattle.space.specs.Vectors.{entries, dotOf, Sized}
 use Rattle.boxes.specs.Boxes.{pointOf}
 use Rattle.space.proofs.VectorLaws.{sized-up}
 use Rattle.mapping.specs.Mapping.{box, H}
-use Rattle.mapping.proofs.Fits.{time-sized}
+use Rattle.job.proofs.Accepting.{time-sized}
 use Rattle.mapping.specs.Frames.{tickOf}
-use Rattle.frame.proofs.FrameLaws.{held-is, fits-limit, point-sized, product-sized}
+use Rattle.space.proofs.Machine.{held-as}
+use Rattle.frame.proofs.FrameLaws.{fits-limit, point-sized, product-sized}
 use Rattle.verdict.proofs.SizeLaws.{small-ends}
 use Rattle.frame.proofs.tick_at.Statement.{statement}
 use Rattle.frame.proofs.tick_at.Tie as tie
@@ -37,7 +38,7 @@ returns c =
     let p = c .before .before .before .before .pre in
     let h = entries (a .j .time) in
     c .steps-above .ensures
-    ∙ ap₂ steps (held-is (p .1 .start) (small-ends (a .j) (p .0) h refl (time-sized (a .j) (p .0)) .0)) (held-is (product (c .before .before)) (product-sized (a .j) (p .0) h refl (time-sized (a .j) (p .0)) (a .k) (p .2)))
+    ∙ ap₂ steps (held-as (p .1 .start) (small-ends (a .j) (p .0) h refl (time-sized (a .j) (p .0)) .0) tt) (held-as (product (c .before .before)) (product-sized (a .j) (p .0) h refl (time-sized (a .j) (p .0)) (a .k) (p .2)) tt)
 
 pub tick-at-spec : {M : Type 1} → statement M
 tick-at-spec = tie.close (tie.spec dot-requires steps-above-requires returns)

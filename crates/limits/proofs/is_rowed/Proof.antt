@@ -4,8 +4,8 @@ use mathlib.Core.Bool.{Bool, not, _||_}
 use lib.Dec.{leb}
 use borrow.Author.Needs.{needs}
 use Rattle.space.specs.Numbers.{Tells}
-use Rattle.space.proofs.Telling.{tells-as, tells-and, tells-where, tells-le}
-use Rattle.job.proofs.Shapes.{last-one}
+use Rattle.space.proofs.Telling.{tells-as, tells-and, tells-where}
+use Rattle.job.proofs.Shapes.{tells-used, last-one}
 use Rattle.limits.proofs.is_rowed.Statement.{statement}
 use Rattle.limits.proofs.is_rowed.Tie as tie
 
@@ -19,7 +19,7 @@ is-sized-requires-3 : tie.Need-is-sized-requires-3
 is-sized-requires-3 c κs = search needs
 
 by-count : {P : Type 0} {r : Bool} (i k : ℕ) → Tells P r → Tells (i < 1 + k → P) (not (leb i k) || r)
-by-count i k t = tells-where _ _ (tells-as (λ h. omega arith) (λ h. omega arith) (tells-le i k)) t
+by-count i k t = tells-where _ _ (tells-used i k) t
 
 returns : tie.Need-returns
 returns c =

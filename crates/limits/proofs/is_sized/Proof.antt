@@ -1,4 +1,4 @@
-use mathlib.Core.Path.{_≡_, ap, _∙_}
+use mathlib.Core.Path.{_≡_, refl}
 use Prim.Native.Nat.{ℕ}
 use lib.Dec.{leb}
 use lib.IntN.{ℤ, natAbs}
@@ -6,7 +6,7 @@ use mir.Syntax.{w64}
 use mir.Val.{SFits}
 use borrow.Author.Needs.{needs}
 use Rattle.space.specs.Numbers.{Size, Tells}
-use Rattle.space.proofs.Machine.{held, back, in-range}
+use Rattle.space.proofs.Machine.{held, in-range, size-read}
 use Rattle.space.proofs.Telling.{tells-as, tells-and, tells-le}
 use Rattle.limits.proofs.is_sized.Statement.{statement}
 use Rattle.limits.proofs.is_sized.Tie as tie
@@ -24,9 +24,7 @@ size-requires-4 : tie.Need-size-requires-4
 size-requires-4 c κs = search needs
 
 of-field : {r : ℕ} {x : ℤ} (most : ℕ) → SFits w64 x → r ≡ natAbs (held x) → Tells (Size most x) (leb r most)
-of-field {r} {x} most f e =
-    let is = e ∙ ap natAbs (back f) in
-    rw is (tells-as (λ h. record { size = h }) (λ h. h .size) (tells-le (natAbs x) most))
+of-field {x = x} most f e = rw (size-read refl f e) (tells-as (λ h. record { size = h }) (λ h. h .size) (tells-le (natAbs x) most))
 
 returns : tie.Need-returns
 returns c =

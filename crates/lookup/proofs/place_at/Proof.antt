@@ -7,7 +7,7 @@ use native.Mathlib.Nat.{le-of-eq}
 use native.Mathlib.Omega.{arith}
 use borrow.Author.Needs.{needs}
 use lib.Dec.{eqb}
-use Rattle.mapping.proofs.Fits.{walkable}
+use Rattle.job.proofs.Accepting.{walkable}
 use Rattle.tables.specs.Tables.{points}
 use Rattle.tick.specs.Ticks.{lastOf, works, pointAt}
 use Rattle.lookup.proofs.place_at.Statement.{statement}

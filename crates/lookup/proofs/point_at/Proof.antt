@@ -3,7 +3,7 @@ use mathlib.Core.Path.{_≡_, sym, ap, subst, _∙_}
 use mathlib.Core.Option.{some}
 use borrow.Author.Needs.{needs}
 use Rattle.boxes.specs.Boxes.{foundOf}
-use Rattle.mapping.proofs.Fits.{walkable}
+use Rattle.job.proofs.Accepting.{walkable}
 use Rattle.verdict.specs.Replies.{Says}
 use Rattle.verdict.specs.declared.Verdict.the-variants.{Accepted}
 use Rattle.tick.specs.Ticks.{works, pointAt}

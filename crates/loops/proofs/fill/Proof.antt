@@ -9,7 +9,9 @@ use Rattle.mapping.specs.Mapping.{box}
 use Rattle.tables.specs.Tables.{points as pointsOf}
 use Rattle.loops.proofs.LoopLaws.{LoopedTo, looped-start, looped-step, looped-end}
 use Rattle.tables.proofs.TableLaws.{few-points}
-use Rattle.mapping.proofs.Fits.{walkable, some-point, stands-in}
+use Rattle.job.proofs.Accepting.{walkable}
+use Rattle.boxes.proofs.BoxLaws.{stands-in}
+use Rattle.mapping.proofs.Fits.{some-point}
 use Rattle.loops.proofs.fill.Statement.{statement}
 use Rattle.loops.proofs.fill.Tie as tie
 
@@ -48,7 +50,7 @@ put-column-requires c κs =
 next-requires : tie.Need-next-requires Inv-loop μ-loop
 next-requires c κs =
     let w = walkable (c .before .before .before .before .before .before .before .before .before .before .before .before .pre .0 .good) in
-    (w .0, w .1, stands-in (c .before .before .before .before .before .before .before .before .before .before .before .before .args .j) (c .before .before .before .before .before .before .before .loop .k) (below (c .before .before .before .before .before .before)) (stands (c .before .before .before .before .before .before)))
+    (w .0, w .1, stands-in _ (c .before .before .before .before .before .before .before .loop .k) (below (c .before .before .before .before .before .before)) (stands (c .before .before .before .before .before .before)))
 
 add-k : tie.Need-add-k Inv-loop μ-loop
 add-k c = let p = c .before .before .before .before .before .before .before .before .before .before .before .before .before .pre in let n = few-points (p .0 .good) in omega (arith, c .before .before .before .before .before .before .before .loop-test .taken, p .0 .count)

@@ -1,14 +1,14 @@
 -- The limits, then the sizes of both tables, then the work.
-use mathlib.Core.Path.{refl, subst}
+use mathlib.Core.Path.{refl}
 use native.Mathlib.Omega.{arith}
 use lib.ListN.{length}
 use denote.Ref.{now}
 use borrow.Author.Needs.{needs}
 use Rattle.space.proofs.Telling.{denied, granted}
-use Rattle.job.specs.Refusals.{done, check, First}
+use Rattle.job.specs.Refusals.{done, check}
 use Rattle.job.specs.Limits.{limits, Acceptable}
 use Rattle.job.proofs.Refusing.{accepted, stop-first}
-use Rattle.mapping.proofs.Fits.{walkable}
+use Rattle.job.proofs.Accepting.{walkable}
 use Rattle.tables.specs.Tables.{Long}
 use Rattle.tables.proofs.TableLaws.{tells-long}
 use Rattle.loops.proofs.LoopLaws.{table-refused, tables-taken}
@@ -25,7 +25,7 @@ returns c =
 
 -- past the limits the job is acceptable
 good : (c : tie.Else1) → Acceptable (c .before .before .before .before .args .j)
-good c = accepted (c .before .before .before .before .args .j) (subst (First (limits (c .before .before .before .before .args .j))) (c .if1 .left) (c .before .number .ensures))
+good c = accepted _ (c .if1 .left) (c .before .number .ensures)
 
 size-of-requires : tie.Need-size-of-requires
 size-of-requires c κs = good c

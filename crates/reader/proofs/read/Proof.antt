@@ -1,10 +1,9 @@
 -- A refusal of the header or of the record is one of the bytes; without one the record is acceptable.
-use mathlib.Core.Path.{_≡_, subst}
+use mathlib.Core.Path.{subst}
 use native.Mathlib.Omega.{arith}
 use denote.Ref.{now}
 use borrow.Author.Needs.{needs}
 use Rattle.job.specs.Refusals.{First}
-use Rattle.job.specs.Limits.{limits}
 use Rattle.job.proofs.Refusing.{stop-first, accepted}
 use Rattle.header.specs.Header.{headChecks}
 use Rattle.header.proofs.HeaderLaws.{later}
@@ -34,10 +33,7 @@ returns-2 : tie.Need-returns-2
 returns-2 c = (record-first (now (c .before .before .before .before .before .before .args .s)) (passed (c .before .before .before)) _ (c .before .before .job-of .ensures) _ (c .before .number2 .ensures), λ e. omega (arith, c .if2 .taken))
 
 returns-3 : tie.Need-returns-3
-returns-3 c =
-    let j = c .before .before .job-of .result in
-    let e : c .before .number2 .result ≡ 0 = omega (arith, c .if2 .left) in
-    (accepted j (subst (First (limits j)) e (c .before .number2 .ensures)), c .before .before .job-of .ensures .file)
+returns-3 c = (accepted _ (omega (arith, c .if2 .left)) (c .before .number2 .ensures), c .before .before .job-of .ensures .file)
 
 pub read-spec : {M : Type 1} → statement M
 read-spec = tie.close (tie.spec number-requires returns job-of-requires number-requires-2 returns-2 returns-3)

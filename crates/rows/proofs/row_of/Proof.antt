@@ -1,13 +1,12 @@
 -- Past each test one thing more is known of the job, the table and the stream.
-use mathlib.Core.Path.{sym, subst, _∙_}
+use mathlib.Core.Path.{sym, _∙_}
 use Prim.Native.Nat.{_+_, _*_, _≤_}
 use native.Mathlib.Omega.{arith}
 use borrow.Author.Needs.{needs}
 use Rattle.space.proofs.Machine.{fits-under}
-use Rattle.job.specs.Refusals.{First}
-use Rattle.job.specs.Limits.{limits, Acceptable}
+use Rattle.job.specs.Limits.{Acceptable}
 use Rattle.job.proofs.Refusing.{accepted}
-use Rattle.mapping.proofs.Fits.{walkable}
+use Rattle.job.proofs.Accepting.{walkable}
 use Rattle.rows.proofs.RowLaws.{row-end, has-row, other-length, no-job, no-stream}
 use Rattle.rows.proofs.row_of.Statement.{statement}
 use Rattle.rows.proofs.row_of.Tie as tie
@@ -23,7 +22,7 @@ returns c = no-job (c .before .before .before .before .args .j) _ _ _ (c .before
 
 -- past the first test the job is acceptable
 past : (c : tie.Else1) → Acceptable (c .before .before .before .args .j)
-past c = accepted (c .before .before .before .args .j) (subst (First (limits (c .before .before .before .args .j))) (c .if1 .left) (c .before .number .ensures))
+past c = accepted _ (c .if1 .left) (c .before .number .ensures)
 
 size-of-requires : tie.Need-size-of-requires
 size-of-requires c κs = past c

@@ -6,7 +6,9 @@ use Rattle.space.specs.Vectors.{entries, Sized}
 use Rattle.boxes.specs.Boxes.{backOf}
 use Rattle.job.specs.declared.Stream.{Stream}
 use Rattle.mapping.specs.Mapping.{box}
-use Rattle.mapping.proofs.Fits.{along-sized, walkable, stands-in}
+use Rattle.job.proofs.Accepting.{walkable}
+use Rattle.boxes.proofs.BoxLaws.{stands-in}
+use Rattle.mapping.proofs.Fits.{along-sized}
 use Rattle.tables.proofs.previous_at.Statement.{statement}
 use Rattle.tables.proofs.previous_at.Tie as tie
 
@@ -18,7 +20,7 @@ back-requires c κs =
     let a = c .before .args in
     let p = c .before .pre in
     let w = walkable (p .0) in
-    (w .0, w .1, subst (λ (t : Stream). Sized difference (entries (t .d))) (sym (c .stream-at .ensures)) (along-sized (a .j) (p .0) (a .s) (p .1)), stands-in (a .j) (a .k) (p .2) (p .3))
+    (w .0, w .1, subst (λ (t : Stream). Sized difference (entries (t .d))) (sym (c .stream-at .ensures)) (along-sized (a .j) (p .0) (a .s) (p .1)), stands-in _ (a .k) (p .2) (p .3))
 
 returns : tie.Need-returns
 returns c =

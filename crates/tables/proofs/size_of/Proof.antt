@@ -2,7 +2,7 @@
 use mathlib.Core.Path.{_∙_}
 use native.Mathlib.Nat.{add-zero, mul-le-mul}
 use native.Mathlib.Omega.{arith}
-use Rattle.mapping.proofs.Fits.{walkable}
+use Rattle.job.proofs.Accepting.{walkable}
 use Rattle.tables.proofs.TableLaws.{few-streams, few-points, place-as}
 use Rattle.tables.proofs.size_of.Statement.{statement}
 use Rattle.tables.proofs.size_of.Tie as tie

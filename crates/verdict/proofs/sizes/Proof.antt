@@ -13,7 +13,7 @@ use Rattle.space.proofs.Machine.{fits-under}
 use Rattle.space.proofs.VectorLaws.{sized-up}
 use Rattle.job.specs.declared.Job.{Job}
 use Rattle.job.specs.Limits.{Acceptable}
-use Rattle.mapping.proofs.Fits.{time-sized, row0-sized, row1-sized, low-sized, high-sized, solid}
+use Rattle.job.proofs.Accepting.{time-sized, row0-sized, row1-sized, low-sized, high-sized, solid}
 use Rattle.verdict.proofs.SizeLaws.{across-small, cells-are}
 use Rattle.verdict.proofs.sizes.Statement.{statement}
 use Rattle.verdict.proofs.sizes.Tie as tie

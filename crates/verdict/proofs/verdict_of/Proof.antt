@@ -1,8 +1,6 @@
 -- The first broken rule, in the rules' order.
 use mathlib.Core.Path.{subst}
 use borrow.Author.Needs.{needs}
-use Rattle.job.specs.Refusals.{First}
-use Rattle.job.specs.Limits.{limits}
 use Rattle.job.proofs.Refusing.{accepted}
 use Rattle.verdict.specs.Rules.{Ahead, Even, Keeps}
 use Rattle.verdict.specs.Searches.{Finds, Finds-crowd, Finds-jams}
@@ -17,7 +15,7 @@ returns c = record { kept = tt; claim = (c .before .number .ensures, c .if1 .tak
 
 -- what is kept past each rule
 past-limits : (c : tie.Else1) → Keeps (c .before .before .args .j) 1
-past-limits c = (tt, accepted (c .before .before .args .j) (subst (First (limits (c .before .before .args .j))) (c .if1 .left) (c .before .number .ensures)))
+past-limits c = (tt, accepted _ (c .if1 .left) (c .before .number .ensures))
 
 past-late : (c : tie.After-enum-told) → Keeps (c .before .before .before .before .before .args .j) 2
 past-late c = (past-limits (c .before .before .before), subst (Finds (Ahead (c .before .before .before .before .before .args .j)) (c .before .before .before .before .before .args .j .m)) (c .enum-told .given .1) (c .before .before .late .ensures))

@@ -24,7 +24,7 @@ cast-total-of-3 c = search needs
 
 -- past the limits
 accept : (c : tie.Else1) → Acceptable (c .before .before .before .args .j)
-accept c = let e : c .before .number .result ≡ 0 = c .if1 .left in accepted (c .before .before .before .args .j) (rw e at (c .before .number .ensures))
+accept c = accepted _ (c .if1 .left) (c .before .number .ensures)
 
 total-of-requires : tie.Need-total-of-requires
 total-of-requires c κs =

@@ -1,5 +1,6 @@
 use borrow.Author.Needs.{needs}
-use Rattle.space.proofs.Telling.{tells-as, tells-and, tells-eq}
+use Rattle.space.proofs.Telling.{tells-and, tells-eq}
+use Rattle.job.proofs.Shapes.{tells-idle}
 use Rattle.job.proofs.shape.is_idle.Statement.{statement}
 use Rattle.job.proofs.shape.is_idle.Tie as tie
 
@@ -8,9 +9,7 @@ is-unused-requires c κs = search needs
 
 returns : tie.Need-returns
 returns c =
-    tells-as
-    (λ h. record { vector = h .0; kind = h .1 .0; rule = h .1 .1 .0; sources = h .1 .1 .1 })
-    (λ h. (h .vector, (h .kind, (h .rule, h .sources))))
+    tells-idle
     (tells-and _ _ (c .before .before .before .before .is-unused .ensures) (tells-and _ _ (tells-eq _ 0) (tells-and _ _ (tells-eq _ 0) (tells-and _ _ (tells-eq _ 0) (tells-eq _ 0)))))
 
 pub is-idle-spec : {M : Type 1} → statement M

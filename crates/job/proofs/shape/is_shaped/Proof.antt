@@ -1,5 +1,6 @@
 use borrow.Author.Needs.{needs}
-use Rattle.space.proofs.Telling.{tells-as, tells-and}
+use Rattle.space.proofs.Telling.{tells-and}
+use Rattle.job.proofs.Shapes.{tells-shaped}
 use Rattle.job.proofs.shape.is_shaped.Statement.{statement}
 use Rattle.job.proofs.shape.is_shaped.Tie as tie
 
@@ -20,18 +21,7 @@ rows-shaped-requires c κs = search needs
 
 returns : tie.Need-returns
 returns c =
-    tells-as
-    (λ h. record {
-      dimensions = h .0 .0;
-      places = h .0 .1 .0;
-      streams = h .0 .1 .1;
-      box = h .1 .0;
-      vectors = h .1 .1 .0 .0;
-      idle = h .1 .1 .0 .1;
-      rows = h .1 .1 .1 .0;
-      idle-rows = h .1 .1 .1 .1;
-    })
-    (λ h. ((h .dimensions, (h .places, h .streams)), (h .box, ((h .vectors, h .idle), (h .rows, h .idle-rows)))))
+    tells-shaped
     (tells-and _ _ (c .before .before .before .before .are-counts .ensures)
     (tells-and _ _ (tells-and _ _ (c .before .before .before .is-unused .ensures) (c .before .before .is-unused2 .ensures))
     (tells-and _ _ (c .before .streams-shaped .ensures) (c .rows-shaped .ensures))))

@@ -1,5 +1,5 @@
 use borrow.Author.Needs.{needs}
-use Rattle.space.proofs.Telling.{tells-and, tells-where, tells-not, tells-flag}
+use Rattle.space.proofs.Telling.{tells-and, tells-where, tells-unless, tells-flag}
 use Rattle.job.proofs.shape.row_shaped.Statement.{statement}
 use Rattle.job.proofs.shape.row_shaped.Tie as tie
 
@@ -12,7 +12,7 @@ is-unused-requires-2 c κs = search needs
 returns : tie.Need-returns
 returns c =
     tells-and _ _ (tells-where _ _ (tells-flag _) (c .before .is-unused .ensures))
-    (tells-where _ _ (tells-not _ (tells-flag _)) (c .is-unused2 .ensures))
+    (tells-unless _ _ (tells-flag _) (c .is-unused2 .ensures))
 
 pub row-shaped-spec : {M : Type 1} → statement M
 row-shaped-spec = tie.close (tie.spec is-unused-requires is-unused-requires-2 returns)

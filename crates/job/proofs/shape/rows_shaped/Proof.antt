@@ -7,8 +7,8 @@ use lib.Dec.{leb}
 use borrow.Author.Needs.{needs}
 use Rattle.space.specs.Numbers.{Tells}
 use Rattle.space.proofs.Machine.{never}
-use Rattle.space.proofs.Telling.{tells-as, tells-and, tells-le}
-use Rattle.job.proofs.Shapes.{flagged, regroup3}
+use Rattle.space.proofs.Telling.{tells-and}
+use Rattle.job.proofs.Shapes.{flagged, tells-used, regroup3}
 use Rattle.job.proofs.shape.rows_shaped.Statement.{statement}
 use Rattle.job.proofs.shape.rows_shaped.Tie as tie
 
@@ -22,7 +22,7 @@ row-shaped-requires-3 : tie.Need-row-shaped-requires-3
 row-shaped-requires-3 c κs = search needs
 
 by-count : {U I : Type 0} {r : Bool} (i k : ℕ) → Tells ((leb i k ≡ true → U) × ((leb i k ≡ true → ⊥) → I)) r → Tells ((i < 1 + k → U) × (1 + k ≤ i → I)) r
-by-count i k t = flagged (leb i k) (tells-as (λ h. omega arith) (λ h. omega arith) (tells-le i k)) (λ h q. omega arith) (λ n. omega arith) t
+by-count i k t = flagged (leb i k) (tells-used i k) (λ h q. omega arith) (λ n. omega arith) t
 
 -- the time row is always used
 always : {U I : Type 0} {r : Bool} (k : ℕ) → Tells ((true ≡ true → U) × ((true ≡ true → ⊥) → I)) r → Tells ((0 < 1 + k → U) × (1 + k ≤ 0 → I)) r

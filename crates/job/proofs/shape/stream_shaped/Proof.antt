@@ -1,5 +1,5 @@
 use borrow.Author.Needs.{needs}
-use Rattle.space.proofs.Telling.{tells-and, tells-where, tells-not, tells-flag}
+use Rattle.space.proofs.Telling.{tells-and, tells-where, tells-unless, tells-flag}
 use Rattle.job.proofs.shape.stream_shaped.Statement.{statement}
 use Rattle.job.proofs.shape.stream_shaped.Tie as tie
 
@@ -12,7 +12,7 @@ is-idle-requires c κs = search needs
 returns : tie.Need-returns
 returns c =
     tells-and _ _ (tells-where _ _ (tells-flag _) (c .before .is-unused .ensures))
-    (tells-where _ _ (tells-not _ (tells-flag _)) (c .is-idle .ensures))
+    (tells-unless _ _ (tells-flag _) (c .is-idle .ensures))
 
 pub stream-shaped-spec : {M : Type 1} → statement M
 stream-shaped-spec = tie.close (tie.spec is-unused-requires is-idle-requires returns)

@@ -5,7 +5,7 @@ use lib.IntN.{pos, natAbs}
 use borrow.Author.Needs.{needs}
 use Rattle.space.specs.Numbers.{limit, difference}
 use Rattle.space.specs.Vectors.{entries, dotOf, Sized}
-use Rattle.space.proofs.Machine.{Is, fit, read, quot, div-need}
+use Rattle.space.proofs.Machine.{Is, known, fit, read, quot, div-need}
 use Rattle.space.proofs.VectorLaws.{four, unfour}
 use Rattle.job.specs.declared.Job.{Job}
 use Rattle.job.specs.declared.Stream.{Stream}
@@ -13,7 +13,7 @@ use Rattle.mapping.specs.Mapping.{along, H, g, orOne, hops}
 use Rattle.mapping.specs.Courses.{placed}
 use Rattle.mapping.proofs.Courses.{hops-some}
 use Rattle.mapping.proofs.Fits.{along-sized}
-use Rattle.mapping.proofs.Meetings.{known, course-sized, hops-sized, g-answered}
+use Rattle.mapping.proofs.Meetings.{course-sized, hops-sized, g-answered}
 use Rattle.mapping.proofs.course.course_of.Statement.{statement}
 use Rattle.mapping.proofs.course.course_of.Tie as tie
 

@@ -3,7 +3,7 @@ use mathlib.Core.Path.{refl, _∙_}
 use native.Mathlib.Omega.{arith}
 use Rattle.space.proofs.Machine.{in-range, back}
 use Rattle.space.proofs.VectorLaws.{four, sized-up}
-use Rattle.mapping.proofs.Fits.{time-sized, row0-sized, row1-sized}
+use Rattle.job.proofs.Accepting.{time-sized, row0-sized, row1-sized}
 use Rattle.mapping.proofs.course.placed.Statement.{statement}
 use Rattle.mapping.proofs.course.placed.Tie as tie
 

@@ -1,23 +1,22 @@
 -- Row i is the part at its place, and within the bytes.
 use Prim.Native.Nat.{_+_, _*_, _≤_}
-use native.Mathlib.Nat.{mul-le-mul, add-sub-cancel-left}
+use native.Mathlib.Nat.{add-sub-cancel-left}
 use native.Mathlib.Omega.{arith}
 use denote.Ref.{now}
 use lib.ListN.{length, drop, length-drop}
 use borrow.Author.Needs.{needs}
-use Rattle.layout.specs.Layout.{matricesFrom}
-use Rattle.reader.proofs.Places.{within}
+use Rattle.space.proofs.Rows.{row-within}
+use Rattle.layout.specs.Layout.{matricesFrom, totalOf}
+use Rattle.layout.proofs.Totals.{total-small}
 use Rattle.reader.proofs.Piecing.{zeros-held, vector-front}
 use Rattle.reader.proofs.body.row_or.Statement.{statement}
 use Rattle.reader.proofs.body.row_or.Tie as tie
 
 -- the place is within
-room : (c : tie.After-matrices-from) → let a = c .before .before .before .args in (a .i * a .n + a .n ≤ (1 + a .k) * a .n) × (a .m * (a .n + 4) ≤ 4 * 8) × ((1 + a .k) * a .n ≤ 3 * 4)
+room : (c : tie.After-matrices-from) → let a = c .before .before .before .args in (a .i * a .n + a .n ≤ (1 + a .k) * a .n) × (totalOf 1 (a .n) (a .k) (a .m) ≤ 68)
 room c =
-    let a = c .before .before .before .args in
-    let h : a .n + 4 ≤ 8 = omega arith in
-    let k : 1 + a .k ≤ 3 = omega arith in
-    (within (a .i) (1 + a .k) (a .n) (omega arith), mul-le-mul (c .before .before .before .pre .2) h, mul-le-mul k (c .before .before .before .pre .0))
+    let p = c .before .before .before .pre in
+    (row-within _ _ _ (omega arith), total-small _ _ _ (p .0) (p .1) (p .2))
 
 matrices-from-requires : tie.Need-matrices-from-requires
 matrices-from-requires c κs = search needs

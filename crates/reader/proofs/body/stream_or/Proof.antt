@@ -1,19 +1,17 @@
 -- Stream i is the part at its place, and within the bytes.
 use Prim.Native.Nat.{_+_, _*_, _≤_}
-use native.Mathlib.Nat.{mul-le-mul, add-sub-cancel-left}
+use native.Mathlib.Nat.{add-sub-cancel-left}
 use native.Mathlib.Omega.{arith}
 use borrow.Author.Needs.{needs}
-use Rattle.reader.proofs.Places.{within}
+use Rattle.space.proofs.Rows.{row-within}
+use Rattle.layout.proofs.Totals.{streams-few}
 use Rattle.reader.proofs.Piecing.{zeros-held}
 use Rattle.reader.proofs.body.stream_or.Statement.{statement}
 use Rattle.reader.proofs.body.stream_or.Tie as tie
 
 -- the place is within
 room : (c : tie.After-streams-from) → let a = c .before .before .before .args in (a .i * (a .n + 4) + (a .n + 4) ≤ a .m * (a .n + 4)) × (a .m * (a .n + 4) ≤ 4 * 8)
-room c =
-    let a = c .before .before .before .args in
-    let h : a .n + 4 ≤ 8 = omega arith in
-    (within (a .i) (a .m) (a .n + 4) (c .before .if1 .taken), mul-le-mul (c .before .before .before .pre .1) h)
+room c = let p = c .before .before .before .pre in (row-within _ _ _ (c .before .if1 .taken), streams-few _ _ (p .0) (p .1))
 
 streams-from-requires : tie.Need-streams-from-requires
 streams-from-requires c κs = search needs

@@ -7,7 +7,7 @@ use denote.Ref.{now}
 use borrow.Author.Needs.{needs}
 use Rattle.tables.specs.Tables.{points}
 use Rattle.tables.proofs.TableLaws.{few-points, entry-in, place-as}
-use Rattle.mapping.proofs.Fits.{walkable}
+use Rattle.job.proofs.Accepting.{walkable}
 use Rattle.tick.proofs.StoreLaws.{place-in, put-none, put-one}
 use Rattle.tick.proofs.store.put_point.Statement.{statement}
 use Rattle.tick.proofs.store.put_point.Tie as tie

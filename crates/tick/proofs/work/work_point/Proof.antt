@@ -3,7 +3,7 @@ use mathlib.Core.Path.{sym, _∙_}
 use native.Mathlib.Omega.{arith}
 use borrow.Author.Needs.{needs}
 use Rattle.tables.proofs.TableLaws.{few-points}
-use Rattle.mapping.proofs.Fits.{walkable}
+use Rattle.job.proofs.Accepting.{walkable}
 use Rattle.tick.proofs.WorkLaws.{point-idle}
 use Rattle.tick.proofs.work.work_point.Statement.{statement}
 use Rattle.tick.proofs.work.work_point.Tie as tie

@@ -2,14 +2,12 @@
 use mathlib.Core.Path.{sym, subst}
 use native.Mathlib.Omega.{arith}
 use borrow.Author.Needs.{needs}
-use Rattle.space.specs.Numbers.{coordinate}
 use Rattle.space.specs.Vectors.{entries}
 use Rattle.space.proofs.VectorLaws.{sized-up}
-use Rattle.boxes.proofs.BoxLaws.{in-sized, sides-sized}
 use Rattle.boxes.proofs.PairLaws.{apart-sized}
 use Rattle.mapping.specs.Mapping.{box}
 use Rattle.mapping.specs.Searches.{Still, Finds-gap}
-use Rattle.mapping.proofs.Fits.{low-sized, high-sized}
+use Rattle.job.proofs.Accepting.{low-sized, high-sized, in-box-sized}
 use Rattle.verdict.specs.Rules.{SameCell}
 use Rattle.verdict.specs.Replies.{FirstPair}
 use Rattle.verdict.proofs.FirstPairs.{cell-by-gap, no-pair, first-pair}
@@ -43,7 +41,7 @@ plus-requires c κs =
     let j = c .before .before .before .before .before .args .j in
     let a = c .before .before .before .before .before .pre in
     let found = subst (Finds-gap (Still j) (box j)) (c .before .before .gap .given .1) (c .before .before .before .before .cell-gap .ensures) in (
-      sized-up (omega arith) (in-sized coordinate (box j) _ (sides-sized (j .bounds) (low-sized j a) (high-sized j a)) (c .start .ensures .0 .0)),
+      sized-up (omega arith) (in-box-sized j a (c .start .ensures .0 .0)),
       sized-up (omega arith) (apart-sized (j .bounds) _ (low-sized j a) (high-sized j a) (found .1)),
     )
 

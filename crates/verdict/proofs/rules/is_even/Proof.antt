@@ -1,5 +1,5 @@
 -- g divides Hd where no rest is left; where g is 0 the stream is stationary and nothing is asked.
-use mathlib.Core.Path.{_≡_, sym, ap, subst, _∙_}
+use mathlib.Core.Path.{_≡_, sym, subst, _∙_}
 use Prim.Native.Nat.{ℕ, _%_, _∣_}
 use native.Mathlib.Nat.{dvd-of-mod-eq-zero, mod-eq-zero-of-dvd}
 use native.Mathlib.Omega.{arith}
@@ -8,14 +8,15 @@ use lib.IntN.{natAbs}
 use borrow.Author.Needs.{needs}
 use Rattle.space.specs.Numbers.{Tells, limit}
 use Rattle.space.specs.Vectors.{entries, Sized}
-use Rattle.space.proofs.Machine.{in-range, back, never}
+use Rattle.space.proofs.Machine.{in-range, size-read, never}
 use Rattle.space.proofs.VectorLaws.{sized-up}
 use Rattle.space.proofs.Telling.{tells-as, tells-eq}
 use Rattle.job.specs.declared.Job.{Job}
 use Rattle.job.specs.declared.Stream.{Stream}
 use Rattle.mapping.specs.Mapping.{along, H, g}
 use Rattle.mapping.proofs.Courses.{none-stationary, stationary-none}
-use Rattle.mapping.proofs.Fits.{time-sized, along-sized}
+use Rattle.job.proofs.Accepting.{time-sized}
+use Rattle.mapping.proofs.Fits.{along-sized}
 use Rattle.verdict.specs.Rules.{Even}
 use Rattle.verdict.proofs.rules.is_even.Statement.{statement}
 use Rattle.verdict.proofs.rules.is_even.Tie as tie
@@ -53,7 +54,7 @@ divides j s n k z e h =
 returns-2 : tie.Need-returns-2
 returns-2 c =
     divides (c .before .before .before .before .before .before .before .before .before .args .j) (c .before .before .before .before .before .before .before .before .before .args .s) _ _ (c .before .before .before .before .before .before .if1 .left) (c .before .before .before .before .before .before .before .before .course-of .ensures .hops)
-    (c .before .size .ensures ∙ ap natAbs (back (in-range (c .before .before .dot .ok)) ∙ (rw (c .before .before .before .before .before .stream-at .ensures) at (c .before .before .dot .ensures))))
+    (size-read (rw (c .before .before .before .before .before .stream-at .ensures) at (c .before .before .dot .ensures)) (in-range (c .before .before .dot .ok)) (c .before .size .ensures))
 
 pub is-even-spec : {M : Type 1} → statement M
 is-even-spec = tie.close (tie.spec course-of-requires returns stream-at-requires dot-requires size-requires rem-result returns-2)

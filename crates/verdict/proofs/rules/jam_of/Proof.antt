@@ -3,17 +3,15 @@ use mathlib.Core.Path.{refl, sym, subst, _∙_}
 use mathlib.Core.List.{List}
 use native.Mathlib.Omega.{arith}
 use borrow.Author.Needs.{needs}
-use Rattle.space.specs.Numbers.{coordinate}
 use Rattle.space.specs.Vectors.{entries, plusOf}
 use Rattle.space.proofs.Machine.{held, in-range, back}
 use Rattle.space.proofs.VectorLaws.{sized-up, minus-plus}
-use Rattle.boxes.proofs.BoxLaws.{in-sized, sides-sized}
 use Rattle.boxes.proofs.PairLaws.{apart-sized}
-use Rattle.mapping.specs.Mapping.{box, Stationary}
+use Rattle.mapping.specs.Mapping.{Stationary}
 use Rattle.mapping.specs.Searches.{Meets, Finds-link}
 use Rattle.mapping.specs.declared.walk.FirstLink.the-variants as FirstLink
 use Rattle.mapping.proofs.Courses.{none-stationary, stationary-none}
-use Rattle.mapping.proofs.Fits.{low-sized, high-sized}
+use Rattle.job.proofs.Accepting.{low-sized, high-sized, in-box-sized}
 use Rattle.verdict.specs.Rules.{Meeting, MeetingSome}
 use Rattle.verdict.specs.Replies.{FirstPair}
 use Rattle.verdict.proofs.FirstPairs.{link-by-gap, meets-meeting, no-pair, first-pair}
@@ -61,7 +59,7 @@ plus-requires : tie.Need-plus-requires
 plus-requires c κs =
     let j = c .before .before .before .before .before .before .before .before .before .args .j in
     let a = c .before .before .before .before .before .before .before .before .before .pre .0 in (
-      sized-up (omega arith) (in-sized coordinate (box j) _ (sides-sized (j .bounds) (low-sized j a) (high-sized j a)) (c .start .ensures .0 .0)),
+      sized-up (omega arith) (in-box-sized j a (c .start .ensures .0 .0)),
       sized-up (omega arith) (apart-sized (j .bounds) _ (low-sized j a) (high-sized j a) (found (c .before .before) .0 .1)),
     )
 
