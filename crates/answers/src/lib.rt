@@ -5,6 +5,9 @@ use verdict::Verdict;
 ghost use Rattle.job.specs.Limits.{Acceptable};
 ghost use Rattle.answers.specs.Answers.{Answers, Lacks, runChecks};
 
+// 14: 'R over 8,192'.
+const ROOM_LIMIT: u64 = 8192;
+
 // What a run or a tick answers: the tick count; the verdict's refusal; 13; 14 and 15 with R; 16.
 pub enum Reply {
     Ticks(u64),
@@ -65,7 +68,7 @@ pub fn lacking(j: Job, size: Size, input: usize, values: usize, places: usize) -
     if !((input == table) & (values == table)) {
         return Reply::Tables;
     }
-    if 8192 < size.room {
+    if ROOM_LIMIT < size.room {
         return Reply::Large(size.room);
     }
     if (places as u64) < size.room {

@@ -26,7 +26,7 @@ pub fn run_of(j: Job, input: &[u32], values: &mut [u32], places: &mut [u32]) -> 
         return reply;
     };
     let f = frame::frame_of(j);
-    let mut timetable = [0u64; 1024];
+    let mut timetable = [0u64; frame::TIMETABLE];
     frame::fill_timetable(j, f, &mut timetable[..]);
     clear(&mut places[..], size.room as usize);
     all_ticks(
@@ -57,7 +57,7 @@ pub fn tick_of(j: Job, t: u64, input: &[u32], values: &mut [u32], places: &mut [
         return Reply::Late;
     }
     let f = frame::frame_of(j);
-    let mut timetable = [0u64; 1024];
+    let mut timetable = [0u64; frame::TIMETABLE];
     frame::fill_timetable(j, f, &mut timetable[..]);
     tick::one_tick(
         j,

@@ -6,14 +6,14 @@ ghost use lib.ListN.{getD};
 ghost use Rattle.cell.specs.Cells.{ruled};
 
 // The product of two numbers, modulo 2^32.
-pub fn wrapped_product(a: u32, b: u32) -> u32
+fn wrapped_product(a: u32, b: u32) -> u32
     ensures { λ r. ⌜ r ≡ a * b % 4294967296 ⌝ }
 {
     ((a as u64) * (b as u64) % 4294967296) as u32
 }
 
 // The value that a rule gives, from the stream's own incoming value and those of its sources.
-pub fn rule_value(rule: u8, own: u32, a: u32, b: u32) -> u32
+fn rule_value(rule: u8, own: u32, a: u32, b: u32) -> u32
     ensures { λ r. ⌜ r ≡ ruled rule own a b ⌝ }
 {
     if rule == 0 {

@@ -16,11 +16,11 @@ use Rattle.mapping.specs.Frames.{cells, ticks, tickOf, cellOf, held}
 use Rattle.tick.specs.Ticks.{pointAt, incoming as arrayIncoming}
 use Rattle.array.specs.Runs.{Ran}
 use Rattle.frame.proofs.FrameLaws.{tick-below, cell-below}
-use Rattle.demand.specs.Machine.{incoming, taken}
+use Rattle.demand.proofs.Machine.{incoming, taken}
 use Rattle.demand.proofs.Mapped as Core
 use Rattle.demand.proofs.Rules.{rules-kept}
 use Rattle.demand.proofs.Scans.{point-only}
-use Rattle.demand.specs.Instances.{machine, nest}
+use Rattle.demand.proofs.Instances.{machine, nest}
 use Rattle.demand.proofs.Instance.{job-mapped}
 use Rattle.demand.proofs.Runs.{incoming-is, Chain, chain-of, run-of, taken-is, loop-solves, ran-through}
 use Rattle.tables.proofs.TableLaws.{tables-same}

@@ -25,7 +25,7 @@ use Rattle.tables.specs.Tables.{points, previous}
 use Rattle.mapping.specs.Frames.{rectangle, clock, tickOf, cellOf, w}
 use Rattle.frame.proofs.FrameLaws.{between, in-rectangle}
 use Rattle.demand.proofs.Lines.{line-start, line-back, line-behind, minus-back}
-use Rattle.demand.specs.Rules.{HopsApart, Obeys}
+use Rattle.demand.proofs.Obeys.{HopsApart, Obeys}
 use Rattle.demand.proofs.Rules.{delay-is, time-whole, delay-low}
 
 -- the point at place k

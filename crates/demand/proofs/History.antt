@@ -4,7 +4,7 @@ use Prim.Native.Nat.{ℕ, zero, suc, _+_, _*_, _-_, _/_, _%_, _≤_, _<_}
 use native.Mathlib.Nat.{mod-lt, add-mod-right, div-add-mod', add-zero, add-suc, mul-le-mul-right}
 use native.Mathlib.Decide.{decLe}
 use native.Mathlib.Omega.{arith}
-use Rattle.demand.specs.Machine.{Machine, Nest, slot, store, stored, Run}
+use Rattle.demand.proofs.Machine.{Machine, Nest, slot, store, stored, Run}
 
 -- two numbers k apart, 1 ≤ k < w, differ mod w: else k is a difference of two multiples of w
 no-multiple : (w q r k p : ℕ) → 1 ≤ k → k < w → q * w + r + k ≡ p * w + r → ⊥

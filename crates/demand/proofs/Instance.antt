@@ -10,10 +10,10 @@ use Rattle.tables.specs.Tables.{entryFor, previous}
 use Rattle.tables.proofs.TableLaws.{same-work}
 use Rattle.mapping.specs.Frames.{rectangle, cells}
 use Rattle.boxes.specs.Boxes.{given}
-use Rattle.demand.specs.Instances.{machine, nest}
+use Rattle.demand.proofs.Instances.{machine, nest}
 use Rattle.demand.proofs.Mapped.{Mapped}
 use Rattle.demand.proofs.Straight.{Laid, in-cell, LinkRule, mapped}
-use Rattle.demand.specs.Rules.{Obeys}
+use Rattle.demand.proofs.Obeys.{Obeys}
 use Rattle.demand.proofs.Rules.{hops-low, delay-low}
 use Rattle.demand.proofs.Scans.{point-only, point-here}
 use Rattle.demand.proofs.Geometry.{one-point, laneOf, lane-first, previous-below, ticks-on, lane-last, lane-behind, none-between}

@@ -1,3 +1,6 @@
+pub mod Machine
+pub mod Instances
+pub mod Obeys
 pub mod History
 pub mod Ride
 pub mod Mapped

@@ -5,7 +5,7 @@ use mathlib.Core.Option.{Option, none, some}
 use Prim.Native.Nat.{ℕ, zero, suc, _+_, _*_, _-_, _≤_, _<_}
 use native.Mathlib.Nat.{add-zero, add-suc}
 use native.Mathlib.Omega.{arith}
-use Rattle.demand.specs.Machine.{Machine, Nest, Values, incoming, fresh, Run, taken, Solves}
+use Rattle.demand.proofs.Machine.{Machine, Nest, Values, incoming, fresh, Run, taken, Solves}
 use Rattle.boxes.specs.Boxes.{given}
 use Rattle.demand.proofs.Ride.{Idle, Way, Linked, ride, ride-on, stored-sent, arrival-fed}
 

@@ -4,7 +4,7 @@ use mathlib.Core.Bool.{true, false, cond}
 use mathlib.Core.Option.{Option, none, some}
 use Prim.Native.Nat.{ℕ, zero, suc, _+_, _*_, _≤_, _<_}
 use native.Mathlib.Omega.{arith}
-use Rattle.demand.specs.Machine.{Machine, Nest, Places, link, arrival, fresh, stored, Run}
+use Rattle.demand.proofs.Machine.{Machine, Nest, Places, link, arrival, fresh, stored, Run}
 use Rattle.boxes.specs.Boxes.{given}
 use Rattle.demand.proofs.History.{held}
 

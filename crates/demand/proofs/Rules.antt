@@ -17,7 +17,7 @@ use Rattle.verdict.specs.declared.Size.{Size}
 use Rattle.verdict.specs.declared.Verdict.the-variants.{Accepted}
 use Rattle.mapping.specs.Frames.{w}
 use Rattle.tick.proofs.RoomLaws.{w-positive}
-use Rattle.demand.specs.Rules.{Moving, HopsApart, Obeys}
+use Rattle.demand.proofs.Obeys.{Moving, HopsApart, Obeys}
 
 module _ (j : Job) (z : Size) (y : Says j (Accepted z)) where
   -- no two points are f hops apart where f makes that a collision

@@ -18,8 +18,8 @@ use Rattle.mapping.specs.Frames.{rectangle, held}
 use Rattle.tick.specs.Ticks.{pointAt, Ticked as ArrayTicked, arrival as arrayArrival, incoming as arrayIncoming, fresh as arrayFresh, stored as arrayStored}
 use Rattle.array.specs.Runs.{Ran}
 use Rattle.array.specs.Runs.Ran.{ready, ticked}
-use Rattle.demand.specs.Machine.{link, arrival, incoming, fresh, stored, taken, Ticked, Run, Solves}
-use Rattle.demand.specs.Instances.{machine, nest}
+use Rattle.demand.proofs.Machine.{link, arrival, incoming, fresh, stored, taken, Ticked, Run, Solves}
+use Rattle.demand.proofs.Instances.{machine, nest}
 
 module _ (j : Job) (input : List ℕ) where
   -- ---- one tick: what the array's definitions say is what the machine's say, of what the places hold

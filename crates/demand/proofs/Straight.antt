@@ -4,7 +4,7 @@ use mathlib.Core.Bool.{Bool, true, false}
 use mathlib.Core.Option.{Option, none, some}
 use Prim.Native.Nat.{ℕ, suc, _+_, _*_, _-_, _≤_, _<_}
 use native.Mathlib.Omega.{arith}
-use Rattle.demand.specs.Machine.{Machine, Nest}
+use Rattle.demand.proofs.Machine.{Machine, Nest}
 use Rattle.demand.proofs.Ride.{Idle, Way, Linked}
 use Rattle.demand.proofs.Mapped.{Source, fed, entered, sent, Mapped}
 

@@ -1,4 +1,1 @@
-pub mod Rules
-pub mod Machine
-pub mod Instances
 pub mod SmallJobs

@@ -74,6 +74,9 @@ pub fn cell_at(j: Job, f: Frame, p: Vector, k: u64) -> u64
     row * f.columns + boxes::steps_above(f.low1, v.x2)
 }
 
+// As many entries as a job may have points.
+pub const TIMETABLE: usize = 1024;
+
 // The tick of every point, in box order.
 pub fn fill_timetable(j: Job, f: Frame, timetable: &mut [u64])
     requires { ⌜ Acceptable j × Framed j f × (pointsOf j ≤ length (now timetable)) ⌝ }

@@ -39,7 +39,7 @@ pub fn number(j: Job) -> u8
 }
 
 // 6: no bound is over its limit in size, l ≤ u for each, and there are not too many points.
-pub fn is_boxed(b: Bounds) -> bool
+fn is_boxed(b: Bounds) -> bool
     ensures { λ r. ⌜ Tells (Boxed b) r ⌝ }
 {
     let l = b.low;
@@ -52,7 +52,7 @@ pub fn is_boxed(b: Bounds) -> bool
 }
 
 // 7: every stream that is used keeps its line.
-pub fn are_sound(j: Job) -> bool
+fn are_sound(j: Job) -> bool
     ensures { λ r. ⌜ Tells (Firsts (Sound (j .m)) (j .m) (streamsOf j)) r ⌝ }
 {
     let m = j.m;
@@ -66,7 +66,7 @@ pub fn are_sound(j: Job) -> bool
 }
 
 // 8: no entry of H or of the rows of S is over its limit in size.
-pub fn is_rowed(j: Job) -> bool
+fn is_rowed(j: Job) -> bool
     ensures { λ r. ⌜ Tells (Rowed j) r ⌝ }
 {
     let k = j.k;

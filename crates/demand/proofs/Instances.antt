@@ -10,7 +10,7 @@ use Rattle.tables.specs.Tables.{points, entryFor, previous}
 use Rattle.cell.specs.Cells.{work}
 use Rattle.mapping.specs.Frames.{rectangle, cells, tickOf, cellOf, w}
 use Rattle.tick.specs.Ticks.{pointAt}
-use Rattle.demand.specs.Machine.{Machine, Nest}
+use Rattle.demand.proofs.Machine.{Machine, Nest}
 
 -- the array of a job: streams, cells and points by their numbers; every point sends, and inputs are fed at the points
 abbrev pub machine : Job → List ℕ → Machine ℕ ℕ ℕ ℕ
