@@ -1,7 +1,7 @@
 -- Laws of the answers: what the checks leave where none fails, and what refuses.
 use mathlib.Core.Path.{_≡_}
 use mathlib.Core.List.{[], _∷_}
-use Prim.Native.Nat.{ℕ, _*_, _≤_}
+use Prim.Native.Nat.{ℕ, _≤_}
 use native.Mathlib.Omega.{arith}
 use types.Run.{OneOf, miss}
 use denote.Enum.Declared.{tagOf}
@@ -11,17 +11,17 @@ use Rattle.job.proofs.Refusing.{first-passes}
 use Rattle.verdict.specs.Replies.{Says}
 use Rattle.verdict.specs.declared.Size.{Size}
 use Rattle.verdict.specs.declared.Verdict.the-variants.{Accepted}
-use Rattle.tables.specs.Tables.{points}
+use Rattle.tables.specs.Tables.{Long}
 use Rattle.answers.specs.Answers.{runChecks, Replies, Lacks}
 use Rattle.answers.specs.declared.Reply.{Reply}
 use Rattle.answers.proofs.Reply.{the-type as reply-type}
 use Rattle.answers.specs.declared.Reply.the-variants.{Ticks, Refused, Tables, Large, Few, Late}
 
 -- what the checks leave where none fails
-pub passed : (j : Job) (a b n : ℕ) (z : Size) → First (runChecks j a b n z) 0 → (a ≡ j .m * points j) × (b ≡ j .m * points j) × (z .room ≤ 8192) × (z .room ≤ n)
+pub passed : (j : Job) (a b n : ℕ) (z : Size) → First (runChecks j a b n z) 0 → Long j a b × (z .room ≤ 8192) × (z .room ≤ n)
 passed j a b n z f =
     let p = first-passes (runChecks j a b n z) ((λ e. omega arith), ((λ e. omega arith), ((λ e. omega arith), tt))) f in
-    (p .0 .0, p .0 .1, p .1 .0, p .1 .1 .0)
+    (p .0, p .1 .0, p .1 .1 .0)
 
 -- ---- a refusal of 13 to 15
 -- what is lacking is the reply

@@ -26,17 +26,17 @@ accepted-runs {j} {z} s h =
 module _ {j : Job} {z : Size} (s : Says j (Accepted z)) {a b n : ℕ} (p : First (runChecks j a b n z) 0) where
   -- a tick past the end
   pub tick-late : (t : ℕ) → z .ticks ≤ t → First (tickChecks t j a b n z) 16
-  tick-late t h = let q = passed j a b n z p in inl ((q .0, q .1), inl (q .2, inl (q .3, inr ((λ l. omega arith), refl))))
+  tick-late t h = let q = passed j a b n z p in inl (q .0, inl (q .1, inl (q .2, inr ((λ l. omega arith), refl))))
 
   pub tick-taken : (t : ℕ) → t < z .ticks → First (tickChecks t j a b n z) 0
-  tick-taken t h = let q = passed j a b n z p in inl ((q .0, q .1), inl (q .2, inl (q .3, inl (h, refl))))
+  tick-taken t h = let q = passed j a b n z p in inl (q .0, inl (q .1, inl (q .2, inl (h, refl))))
 
   -- the tables and the places are what a tick asks for
   pub tables-tabled : {f : Frame} {input values : List ℕ} → Framed j f → length input ≡ a → length values ≡ b → Tabled j f input × Tabled j f values
   tables-tabled g e d =
       let q = passed j a b n z p in
-      let r = accepted-runs s (q .2) in
-      (record { runnable = r; framed = g; size = e ∙ q .0 }, record { runnable = r; framed = g; size = d ∙ q .1 })
+      let r = accepted-runs s (q .1) in
+      (record { runnable = r; framed = g; size = e ∙ q .0 .0 }, record { runnable = r; framed = g; size = d ∙ q .0 .1 })
 
   pub places-roomy : {places : List ℕ} → length places ≡ n → Roomy j places
-  places-roomy e = record { enough = omega (arith, passed j a b n z p .3, s .claim .room, e) }
+  places-roomy e = record { enough = omega (arith, passed j a b n z p .2, s .claim .room, e) }

@@ -33,8 +33,8 @@ module _ (j : Job) (input values places v p v′ p′ : List ℕ) (r r′ : Repl
     where
       finished : (z : Size) → Says j (Accepted z) → First (runChecks j (length input) (length values) (length places) z) 0 → Ran j input (cleared (room j) places) values (ticks j) p v → Ran j input (cleared (room j) places) values (ticks j) p′ v′ → (v ≡ v′) × (p ≡ p′)
       finished z s f a b =
-          let q = passed j (length input) (length values) (length places) z f in
-          let e = ran-unique j (accepted-runs s (q .2)) input (cleared (room j) places) values (ticks j) p v p′ v′ (q .1) a b in
+          let q = passed j _ _ _ z f in
+          let e = ran-unique j (accepted-runs s (q .1)) input (cleared (room j) places) values (ticks j) p v p′ v′ (q .0 .1) a b in
           (e .1, e .0)
 
   -- of a single tick too
@@ -43,8 +43,8 @@ module _ (j : Job) (input values places v p v′ p′ : List ℕ) (r r′ : Repl
     where
       finished : (z : Size) → Says j (Accepted z) → First (tickChecks t j (length input) (length values) (length places) z) 0 → Ticked j input t places values p v → Ticked j input t places values p′ v′ → (v ≡ v′) × (p ≡ p′)
       finished z s f a b =
-          let q = passed j (length input) (length values) (length places) z (then-passed (runChecks j (length input) (length values) (length places) z) (check 16 (t < z .ticks) done) f) in
-          let e = ticked-unique j (accepted-runs s (q .2)) input t places values p v p′ v′ (q .1) a b in
+          let q = passed j _ _ _ z (then-passed (runChecks j (length input) (length values) (length places) z) (check 16 (t < z .ticks) done) f) in
+          let e = ticked-unique j (accepted-runs s (q .1)) input t places values p v p′ v′ (q .0 .1) a b in
           (e .1, e .0)
 
 -- ---- on bytes

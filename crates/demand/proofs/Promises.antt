@@ -12,7 +12,7 @@ use Rattle.job.proofs.Refusing.{first-unique}
 use Rattle.reader.specs.Reading.{Reads}
 use Rattle.reader.specs.declared.Reply.the-variants as Read
 use Rattle.reader.proofs.Theorems.{of-bytes-job}
-use Rattle.tables.specs.Tables.{points}
+use Rattle.tables.specs.Tables.{points, Long}
 use Rattle.loops.proofs.LoopLaws.{tables-taken}
 use Rattle.loops.specs.Loops.{loopChecks, Loops}
 use Rattle.loops.specs.LoopBytes.{LoopsOf}
@@ -28,11 +28,8 @@ use Rattle.demand.proofs.Demand.{demand-3}
 -- ---- of a record
 module _ (j : Job) (input values places values′ places′ : List ℕ) (n : ℕ) (run : Runs j input values places values′ places′ (Array.Ticks n)) where
   -- a run that answers a tick count has passed its checks: its tables are m × points long
-  input-size : length input ≡ j .m * points j
-  input-size = passed j _ _ _ (run .0) (run .1 .first) .0
-
-  pub values-size : length values ≡ j .m * points j
-  values-size = passed j _ _ _ (run .0) (run .1 .first) .1
+  pub sizes : Long j (length input) (length values)
+  sizes = passed j _ _ _ (run .0) (run .1 .first) .0
 
   -- and its job is within the limits
   within : Acceptable j
@@ -40,13 +37,13 @@ module _ (j : Job) (input values places values′ places′ : List ℕ) (n : ℕ
 
   -- so the loop, with a value table so long, refuses nothing
   loop-passes : (before : List ℕ) → length before ≡ j .m * points j → First (loopChecks j input before) 0
-  loop-passes before size = tables-taken j input before within (input-size, size)
+  loop-passes before size = tables-taken j input before within (sizes .0, size)
 
   -- A run that answers a tick count leaves in the value table exactly what the loop on the same job and the same input leaves there, whatever stood in the two tables before;
   -- and the loop then answers the point count.
   pub run-leaves-loop : (before after : List ℕ) (r : Answer) → length before ≡ j .m * points j → Loops j input before after r → (r ≡ Points (points j)) × (values′ ≡ after)
   run-leaves-loop before after (Points c) size loop =
-      (ap Points (loop .1), demand-3 j (run .0) (run .1 .accepted) input _ values places′ values′ after values-size (run .3) (loop .2))
+      (ap Points (loop .1), demand-3 j (run .0) (run .1 .accepted) input _ values places′ values′ after (sizes .1) (run .3) (loop .2))
   run-leaves-loop before after (Refused c) size loop = absurd (loop .1 (first-unique (loopChecks j input before) c 0 (loop .0) (loop-passes before size)))
 
 -- ---- of bytes
@@ -63,5 +60,5 @@ module _ (s input values places values′ places′ : List ℕ) where
       let h = job-ran r n ran e in
       let j = h .0 in
       let run = h .2 in
-      let left = run-leaves-loop j input values places values′ places′ n run before after r′ (size ∙ values-size j input values places values′ places′ n run) (of-bytes-job s j (λ (j : Job). Loops j input before after r′) (h .1) loop) in
+      let left = run-leaves-loop j input values places values′ places′ n run before after r′ (size ∙ sizes j input values places values′ places′ n run .1) (of-bytes-job s j (λ (j : Job). Loops j input before after r′) (h .1) loop) in
       (j, h .1, left .0, left .1)

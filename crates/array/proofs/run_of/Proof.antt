@@ -60,7 +60,7 @@ fill-timetable-requires c κs = let a = accepted-limits (says (c .before .before
 
 -- there are as many places
 roomy : (c : tie.After-known-told2) → c .before .before .before .before .before .v .given .0 .0 .room ≤ length (now (c .before .before .before .before .before .before .before .before .before .before .before .args .places))
-roomy c = let a = c .before .before .before .before .before .before .before .before .before .before .before .args in passed (a .j) (length (now (a .input))) (length (now (a .values))) (length (now (a .places))) (c .before .before .before .before .before .v .given .0 .0) (taken c .0) .3
+roomy c = passed (c .before .before .before .before .before .before .before .before .before .before .before .args .j) _ _ _ (c .before .before .before .before .before .v .given .0 .0) (taken c .0) .2
 
 clear-requires : tie.Need-clear-requires
 clear-requires c κs = roomy (c .before .before .before .before .before)
