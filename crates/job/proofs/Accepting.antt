@@ -1,4 +1,4 @@
--- What an acceptable job keeps, by the number of the stream or row.
+-- What an acceptable job keeps: by the number of the stream or row, and the sizes of its rows, its bounds and its points.
 use mathlib.Core.Path.{_≡_}
 use mathlib.Core.List.{List, [], _∷_}
 use Prim.Native.Nat.{ℕ, zero, suc, _+_, _<_, _≤_}
@@ -41,6 +41,7 @@ module _ (j : Job) (a : Acceptable j) where
       let k = a .shaped .places in
       firsts-at (λ (v : Vector). Sized rowLimit (entries v)) (1 + j .k) 0 (rowsOf j) zeroVector i (a .rowed) (omega arith) (omega arith)
 
+  -- and so are all rows, used or not
   pub time-sized : Sized 127 (entries (j .time))
   time-sized = a .rowed .0 (omega arith)
 

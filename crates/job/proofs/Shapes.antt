@@ -1,4 +1,4 @@
--- Questions asked of each of some places, by a flag that says whether the place is used.
+-- Questions asked of each of some places, by a flag that says whether the place is used, and of a stream or record by its parts.
 use mathlib.Core.Path.{_≡_}
 use mathlib.Core.Bool.{Bool, true}
 use Prim.Native.Nat.{ℕ, _+_, _<_, _≤_}
