@@ -67,10 +67,10 @@ higher x y a b (inl h) = inl (inl (omega (int, difference x a)))
 higher x y a b (inr h) = let e = h .0 in let f = h .1 in inl (inr (omega (int, difference x a), inl (omega (int, difference y b))))
 
 -- one hop back never leads to a higher cell, and never to a lower one
-abbrev pub Down : Band → Type 0
+abbrev Down : Band → Type 0
 Down b = (x y : ℕ) → x < countOf (rectangleOf b) → backOf (rectangleOf b) (hopOf b) x ≡ some y → y ≤ x
 
-abbrev pub Up : Band → Type 0
+abbrev Up : Band → Type 0
 Up b = (x y : ℕ) → x < countOf (rectangleOf b) → backOf (rectangleOf b) (hopOf b) x ≡ some y → x ≤ y
 
 pub goes-down : (b : Band) → (pos 0 <ℤ b .hop0) ⊎ ((b .hop0 ≡ pos 0) × (pos 0 ≤ℤ b .hop1)) → Down b
@@ -89,7 +89,7 @@ goes-up b h x y lx e =
 
 -- ---- turns
 -- what the order of the turns is chosen by
-abbrev pub Ordered : Band → Bool → Type 0
+abbrev Ordered : Band → Bool → Type 0
 Ordered b down = (down ≡ true → Down b) × (down ≡ false → Up b)
 
 -- the cell of a turn is a cell, and its turn is that one
@@ -97,7 +97,7 @@ pub turn-below : (down : Bool) (n k : ℕ) → k < n → turnOf down n k < n
 turn-below true n k h = omega arith
 turn-below false n k h = h
 
-pub turn-turn : (down : Bool) (n k : ℕ) → k < n → turnOf down n (turnOf down n k) ≡ k
+turn-turn : (down : Bool) (n k : ℕ) → k < n → turnOf down n (turnOf down n k) ≡ k
 turn-turn true n k h = omega arith
 turn-turn false n k h = refl
 

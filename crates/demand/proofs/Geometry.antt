@@ -33,7 +33,7 @@ abbrev pub point : Job → ℕ → List ℤ
 point j k = pointOf (box j) k
 
 -- the cell f hops after the cell of p, as a vector and by its number
-abbrev pub laneAt : Job → ℕ → ℕ → ℕ → List ℤ
+abbrev laneAt : Job → ℕ → ℕ → ℕ → List ℤ
 laneAt j s p f = plusOf (S j (point j p)) (timesOf (pos f) (hop j s))
 
 unfoldable pub laneOf : Job → ℕ → ℕ → ℕ → ℕ
@@ -47,7 +47,7 @@ place-minus j x y e = two (dot-minus (entries (j .row0)) x y e) (dot-minus (entr
 module _ (j : Job) (rules : Obeys j) where
   -- ---- ticks and cells of points
   -- the point at a place is in the box
-  pub point-inside : (k : ℕ) → k < points j → In (box j) (point j k)
+  point-inside : (k : ℕ) → k < points j → In (box j) (point j k)
   point-inside k lk = point-in (box j) k lk
 
   -- and has four entries
@@ -55,12 +55,12 @@ module _ (j : Job) (rules : Obeys j) where
   point-length k lk = in-length (box j) (point j k) (point-inside k lk)
 
   -- Hk is the least H and the tick
-  pub time-is : (k : ℕ) → k < points j → H j (point j k) ≡ clock j .low +ℤ pos (tickOf j k)
+  time-is : (k : ℕ) → k < points j → H j (point j k) ≡ clock j .low +ℤ pos (tickOf j k)
   unfolding tickOf
   time-is k lk = sym (steps-back (clock j .low) (H j (point j k)) (between j (rules .limits) (entries (j .time)) refl (point j k) (point-inside k lk) .0))
 
   -- its place is in the rectangle
-  pub cell-inside : (k : ℕ) → k < points j → In (rectangle j) (S j (point j k))
+  cell-inside : (k : ℕ) → k < points j → In (rectangle j) (S j (point j k))
   cell-inside k lk = in-rectangle j (rules .limits) (point j k) (point-inside k lk)
 
   -- the cell rule: a tick and a cell have one point

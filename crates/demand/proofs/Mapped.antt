@@ -27,7 +27,7 @@ pub record Mapped {S C P D : Type 0} (M : Machine S C P D) (N : Nest S C P D) : 
 
 module _ {S C P D : Type 0} (M : Machine S C P D) (N : Nest S C P D) where
   -- two tables that agree at i - d have the loop take in the same at i
-  pub taken-same : (L L′ : Values S P D) (s : S) (i : P) → ((p : P) → N .previous s i ≡ some p → L s p ≡ L′ s p) → taken M N L s i ≡ taken M N L′ s i
+  taken-same : (L L′ : Values S P D) (s : S) (i : P) → ((p : P) → N .previous s i ≡ some p → L s p ≡ L′ s p) → taken M N L s i ≡ taken M N L′ s i
   unfolding taken
   taken-same L L′ s i same = by (N .previous s i) same
     where
@@ -77,7 +77,7 @@ module _ {S C P D : Type 0} (M : Machine S C P D) (N : Nest S C P D) (mapped : M
     result s i = fresh M (N .tick i) (R .places (N .tick i)) s (N .cell i) i
 
     -- the points that the run comes to: those whose tick has its places, at the latest those at the end
-    abbrev pub Reached : P → Type 0
+    abbrev Reached : P → Type 0
     Reached i = N .Point i × (N .tick i ≤ R .end)
 
     -- what comes in at a point that is reached is what the loop takes in from the array's own results

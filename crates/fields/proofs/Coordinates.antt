@@ -44,7 +44,7 @@ from-next w x xs n k = by (decLe n k)
         ap (λ (m : ℕ). coordinates w (take m (x ∷ xs))) e ∙ ap (λ (fs : List Field). fs ++ coordinates Word.Blank (take (n - suc k) xs)) (sym (shown w x n k i))
 
 -- what `put_coordinate` puts
-abbrev pub one-of : Word → ℕ → ℕ → ℤ → List ℕ
+abbrev one-of : Word → ℕ → ℕ → ℤ → List ℕ
 one-of w n k x = fieldsBytes (coordinates w (take (n - k) (x ∷ [])))
 
 module _ {s : List ℕ} {at : ℕ} (w : Word) (x : ℤ) (xs : List ℤ) (n k : ℕ) (size : SFits w64 x) (room : Fits s at (fieldsBytes (coordinates w (take (n - k) (x ∷ xs))))) where

@@ -33,7 +33,7 @@ module _ {A : Type 0} (f : A → List ℕ) where
       ∙ rw (drop-cons xs i d h) (ap (λ (l : List ℕ). joined f i xs ++ l) (append-nil (f (getD xs i d))))
 
   -- the first n parts of all, where each has w bytes
-  pub joined-take : (w : ℕ) → ((x : A) → length (f x) ≡ w) → (n : ℕ) (xs : List A) → n ≤ length xs → take (n * w) (joined f (length xs) xs) ≡ joined f n xs
+  joined-take : (w : ℕ) → ((x : A) → length (f x) ≡ w) → (n : ℕ) (xs : List A) → n ≤ length xs → take (n * w) (joined f (length xs) xs) ≡ joined f n xs
   joined-take w every n xs h =
       let e : length xs ≡ length xs - n + n = omega arith in
       ap (λ (k : ℕ). take (n * w) (joined f k xs)) e
@@ -44,7 +44,7 @@ pub vector-take : (n : ℕ) (v : Vector) → n ≤ 4 → take n (vectorBytes 1 4
 vector-take n v h = rw (mul-one n) at (joined-take (entryBytes 1) 1 (λ z. refl) n (entries v) h)
 
 -- the sides of a box, from the bytes of its two corners
-abbrev pub sidesOf : List ℕ → List ℕ → List ℕ
+abbrev sidesOf : List ℕ → List ℕ → List ℕ
 sidesOf l u = getD l 0 0 ∷ getD u 0 0 ∷ getD l 1 0 ∷ getD u 1 0 ∷ getD l 2 0 ∷ getD u 2 0 ∷ getD l 3 0 ∷ getD u 3 0 ∷ []
 
 -- the first n sides of all four

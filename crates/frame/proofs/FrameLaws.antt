@@ -37,10 +37,10 @@ flat r n c = rw (mul-one n, mul-one c, add-zero c)
 
 module _ (j : Job) (a : Acceptable j) where
   -- ---- the ends of a row of four entries
-  pub row-least : (h : List ℤ) → length h ≡ 4 → Least h (box j) (leastOf h (box j))
+  row-least : (h : List ℤ) → length h ≡ 4 → Least h (box j) (leastOf h (box j))
   row-least h e = least-is h (box j) e (solid j a)
 
-  pub row-greatest : (h : List ℤ) → length h ≡ 4 → Greatest h (box j) (greatestOf h (box j))
+  row-greatest : (h : List ℤ) → length h ≡ 4 → Greatest h (box j) (greatestOf h (box j))
   row-greatest h e = greatest-is h (box j) e (solid j a)
 
   -- a point's product lies between them

@@ -17,7 +17,7 @@ use Rattle.job.specs.Record.{FirstsFrom, streamsOf, rowsOf, noStream, ze
 use Rattle.job.specs.Limits.{Acceptable, Unused, Sound, rowLimit}
 
 -- what holds of the first n, counted from k, holds of the one that stands i after k
-pub firsts-at : {A : Type 0} (P : A → Type 0) (n k : ℕ) (xs : List A) (d : A) (i : ℕ) → FirstsFrom k P n xs → k + i < n → i < length xs → P (getD xs i d)
+firsts-at : {A : Type 0} (P : A → Type 0) (n k : ℕ) (xs : List A) (d : A) (i : ℕ) → FirstsFrom k P n xs → k + i < n → i < length xs → P (getD xs i d)
 firsts-at P n k [] d i p h l = absurd (omega arith)
 firsts-at P n k (x ∷ xs) d zero p h l = p .0 (omega arith)
 firsts-at P n k (x ∷ xs) d (suc i) p h l = firsts-at P n (suc k) xs d i (p .1) (omega arith) (omega arith)

@@ -20,11 +20,11 @@ Passes done = Unit {0}
 Passes (check n P rest) = P × Passes rest
 
 -- no number of a check is 0
-abbrev pub Numbered : Checks → Type 0
+abbrev Numbered : Checks → Type 0
 Numbered done = Unit {0}
 Numbered (check n P rest) = (n ≡ 0 → ⊥) × Numbered rest
 
-pub passes-first : (cs : Checks) → Passes cs → First cs 0
+passes-first : (cs : Checks) → Passes cs → First cs 0
 passes-first done p = refl
 passes-first (check n P rest) p = inl (p .0, passes-first rest (p .1))
 

@@ -14,7 +14,7 @@ pub in-size : {z : ℤ} → InByte z → Size 128 z
 in-size {z} h = record { size = omega (int, magnitude z) }
 
 -- an entry of at most 127 in size
-pub size-held : {b : ℕ} {z : ℤ} → b ≤ 127 → Size b z → InByte z
+size-held : {b : ℕ} {z : ℤ} → b ≤ 127 → Size b z → InByte z
 size-held {z = z} h p = record { low = omega (int, magnitude z, p .size); high = omega (int, magnitude z, p .size) }
 
 -- a vector of such entries

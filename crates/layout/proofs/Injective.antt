@@ -53,7 +53,7 @@ module _ (j : Job) (p : Shaped j) where
   unfolding streamsBytes
   streams-length = joined-length (streamBytes 1 (j .n)) (j .n + 4) (stream-length (j .n) (p .dimensions .1)) (j .m) (streamsOf j) (p .streams .1)
 
-  pub matrix-length : length (matrixBytes 1 j) ≡ (1 + j .k) * j .n
+  matrix-length : length (matrixBytes 1 j) ≡ (1 + j .k) * j .n
   unfolding matrixBytes
   matrix-length = joined-length (vectorBytes 1 (j .n)) (j .n) (vector-length (j .n) (p .dimensions .1)) (1 + j .k) (rowsOf j) (omega arith)
 
@@ -69,7 +69,7 @@ file-length j p =
 
 -- ---- equal bytes, cut into pieces
 -- equal bytes cut at one place have equal parts
-pub append-parts : (a a′ b b′ : List ℕ) → length a ≡ length a′ → a ++ b ≡ a′ ++ b′ → (a ≡ a′) × (b ≡ b′)
+append-parts : (a a′ b b′ : List ℕ) → length a ≡ length a′ → a ++ b ≡ a′ ++ b′ → (a ≡ a′) × (b ≡ b′)
 append-parts a a′ b b′ l e = (
   sym (take-at a b (length a) refl) ∙ (ap (take (length a)) e ∙ take-at a′ b′ (length a) (sym l)),
   sym (drop-at a b (length a) refl) ∙ (ap (drop (length a)) e ∙ drop-at a′ b′ (length a) (sym l)),
@@ -102,7 +102,7 @@ module _
       ap₂ _∷_ (r .0) (pieces-unique (suc i) n xs ys (suc-inj l) (p .1) (p′ .1) (q .1) (q′ .1) (r .1))
 
   -- and all of them
-  pub joined-unique : (n : ℕ) (xs ys : List A) → length xs ≡ length ys → Firsts P n xs → Firsts P n ys → Others Q n xs → Others Q n ys → joined f n xs ≡ joined f n ys → xs ≡ ys
+  joined-unique : (n : ℕ) (xs ys : List A) → length xs ≡ length ys → Firsts P n xs → Firsts P n ys → Others Q n xs → Others Q n ys → joined f n xs ≡ joined f n ys → xs ≡ ys
   joined-unique n xs ys l p p′ q q′ e = let z : n - 0 ≡ n = omega arith in pieces-unique 0 n xs ys l p p′ q q′ (rw z e)
 
 -- ---- vectors
@@ -116,7 +116,7 @@ held-entries : (n : ℕ) (v : Vector) → Held v → Firsts InByte n (entries v)
 held-entries n v h = ((λ i. h .x0), ((λ i. h .x1), ((λ i. h .x2), ((λ i. h .x3), tt))))
 
 -- a vector is told by its bytes
-pub vector-unique : (n : ℕ) (v v′ : Vector) → Held v → Held v′ → Unused n v → Unused n v′ → vectorBytes 1 n v ≡ vectorBytes 1 n v′ → v ≡ v′
+vector-unique : (n : ℕ) (v v′ : Vector) → Held v → Held v′ → Unused n v → Unused n v′ → vectorBytes 1 n v ≡ vectorBytes 1 n v′ → v ≡ v′
 vector-unique n v v′ h h′ u u′ e =
     let r =
     unfour
@@ -125,7 +125,7 @@ vector-unique n v v′ h h′ u u′ e =
     vector-same (r .0) (r .1) (r .2) (r .3)
 
 -- a vector with no coordinate used is 0
-pub empty-unique : (v v′ : Vector) → Unused 0 v → Unused 0 v′ → v ≡ v′
+empty-unique : (v v′ : Vector) → Unused 0 v → Unused 0 v′ → v ≡ v′
 empty-unique v v′ u u′ =
     vector-same (u .0 (omega arith) ∙ sym (u′ .0 (omega arith))) (u .1 .0 (omega arith) ∙ sym (u′ .1 .0 (omega arith)))
     (u .1 .1 .0 (omega arith) ∙ sym (u′ .1 .1 .0 (omega arith))) (u .1 .1 .1 .0 (omega arith) ∙ sym (u′ .1 .1 .1 .0 (omega arith)))
@@ -192,7 +192,7 @@ box-same b b′ e =
 
 -- ---- streams
 -- streams are equal by their parts
-pub stream-same : {v v′ : Vector} {t r a b t′ r′ a′ b′ : ℕ} → v ≡ v′ → t ≡ t′ → r ≡ r′ → a ≡ a′ → b ≡ b′
+stream-same : {v v′ : Vector} {t r a b t′ r′ a′ b′ : ℕ} → v ≡ v′ → t ≡ t′ → r ≡ r′ → a ≡ a′ → b ≡ b′
     → _≡_ {A = Stream} (record { d = v; kind = t; rule = r; a = a; b = b }) (record { d = v′; kind = t′; rule = r′; a = a′; b = b′ })
 stream-same e0 e1 e2 e3 e4 = rw (e0, e1, e2, e3, e4)
 
@@ -296,7 +296,7 @@ module _ (j j′ : Job) (s : List ℕ) (l : Lays j s) (l′ : Lays (recounted j 
       job-same (j .n) (j .k) (j .m) bounds-unique (t .0) (t .1) (t .2) (t .3) (r .0) (r .1) (r .2)
 
 -- the counts stand in the file
-pub lays-counts : (j : Job) (s : List ℕ) → Lays j s → (getD s 2 0 ≡ j .n) × (getD s 3 0 ≡ j .k) × (getD s 4 0 ≡ j .m)
+lays-counts : (j : Job) (s : List ℕ) → Lays j s → (getD s 2 0 ≡ j .n) × (getD s 3 0 ≡ j .k) × (getD s 4 0 ≡ j .m)
 unfolding fileOf headerOf
 lays-counts j s l =
     let e = sym (l .file) in

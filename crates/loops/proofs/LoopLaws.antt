@@ -46,7 +46,7 @@ pub looped-start : (j : Job) (input values : List ℕ) → length values ≡ j .
 looped-start j input values e = record { size = e; each = λ s q ls lq. absurd (omega arith) }
 
 -- what comes in at a point up to k lies before k, and so in a column that stays
-pub incoming-same : (j : Job) → Acceptable j → (input got values after : List ℕ) (k u q : ℕ) → Column j k got values (j .m) after → u < j .m → q < points j → q ≤ k → incoming j input values u q ≡ incoming j input after u q
+incoming-same : (j : Job) → Acceptable j → (input got values after : List ℕ) (k u q : ℕ) → Column j k got values (j .m) after → u < j .m → q < points j → q ≤ k → incoming j input values u q ≡ incoming j input after u q
 incoming-same j a input got values after k u q c lu lq le = incoming-from j a input values after u q lu lq (λ r lr. sym (c .others u r lu (omega arith) (λ x. omega arith)))
 
 pub looped-step : (j : Job) → Acceptable j → (input values got after : List ℕ) (k : ℕ) → LoopedTo j input k values → k < points j → ((s : ℕ) → s < j .m → getD got s 0 ≡ incoming j input values s k) → Column j k got values (j .m) after → LoopedTo j input (k + 1) after

@@ -37,7 +37,7 @@ module _ (j : Job) (a : Acceptable j) (input v w : List ℕ) (p : Looped j input
   columns-same (suc k) lk r lr = let h = columns-same k (le-of-suc-le lk) in below-more Alike k h (column-same k lk h) r (omega arith)
 
   -- at most one table keeps the loop's equation
-  pub looped-unique : v ≡ w
+  looped-unique : v ≡ w
   looped-unique = tables-same j v w (p .size) (q .size) (λ s k ls lk. columns-same (points j) (omega arith) k lk s ls)
 
 -- a job whose tables are taken is acceptable

@@ -65,7 +65,7 @@ after-forward (s ∷ ss) (x ∷ xs) (inl b) = inl b
 after-forward (s ∷ ss) (x ∷ xs) (inr b) = inr (sym (b .0), after-forward ss xs (b .1))
 
 -- ---- how many differences there can be: at most 8,189 on each side
-abbrev pub most : Box → ℕ
+abbrev most : Box → ℕ
 most [] = 1
 most (s ∷ ss) = 8189 * most ss
 

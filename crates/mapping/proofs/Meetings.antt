@@ -1,5 +1,5 @@
 -- When two tokens meet: Hy and Sy as one vector are f times one hop, and no two f are. What the code's quotients by g come to.
-use mathlib.Core.Path.{_≡_, refl, sym, ap₂, subst, _∙_}
+use mathlib.Core.Path.{_≡_, refl, sym, subst, _∙_}
 use mathlib.Core.Logic.{inl, inr}
 use mathlib.Core.Bool.{Bool, true, false, _&&_}
 use mathlib.Core.List.{List, [], _∷_, _++_}
@@ -18,7 +18,7 @@ use Rattle.divisors.specs.declared.multiple.Multiple.{Multiple}
 use Rattle.divisors.specs.declared.multiple.Multiple.the-variants as Multiple
 use Rattle.divisors.proofs.multiple.Multiple.{the-type}
 use Rattle.space.proofs.Machine.{arg, quot}
-use Rattle.space.proofs.VectorLaws.{four, unfour}
+use Rattle.space.proofs.VectorLaws.{four, unfour, two, untwo}
 use Rattle.space.proofs.Telling.{tells-as, tells-and, tells-le, tells-below}
 use Rattle.divisors.proofs.MultipleLaws.{times-cancel}
 use Rattle.divisors.proofs.DivisorLaws.{gcd-unique, gcd-zero}
@@ -61,7 +61,7 @@ module _ (d y : List ℤ) (g : ℕ) (f : ℤ) where
 
 -- ---- the numbers of a course
 -- the greatest common divisor of two numbers is as small as they are, and so is it or 1
-pub gcd-small : {g : ℕ} (a b most : ℕ) → GcdOf (a ∷ b ∷ []) g → a ≤ most → b ≤ most → g ≤ most
+gcd-small : {g : ℕ} (a b most : ℕ) → GcdOf (a ∷ b ∷ []) g → a ≤ most → b ≤ most → g ≤ most
 gcd-small zero zero most p h k = let e = gcd-unique p (gcd-zero 0) in omega arith
 gcd-small zero (suc b) most p h k = let l = le-of-dvd (omega arith) (p .divides .1 .0) in omega arith
 gcd-small (suc a) b most p h k = let l = le-of-dvd (omega arith) (p .divides .0) in omega arith
@@ -108,14 +108,11 @@ module _ (j : Job) (s : ℕ) where
   -- Sy = f·e and Hy = f·w in one equation
   pub apart-times : (y : List ℤ) (f : ℤ) → S j y ≡ timesOf f (hop j s) → H j y ≡ f *ℤ delay j s → placed j y ≡ timesOf f (unit-of j s)
   unfolding timesOf
-  apart-times y f place time = let e = pair place in four time (e .0) (e .1) (sym (*ℤ-zero f))
-    where
-      pair : {u v x y : ℤ} → _≡_ {A = List ℤ} (u ∷ v ∷ []) (x ∷ y ∷ []) → (u ≡ x) × (v ≡ y)
-      pair e = (cc, cc)
+  apart-times y f place time = let e = untwo place in four time (e .0) (e .1) (sym (*ℤ-zero f))
 
   pub times-apart : (y : List ℤ) (f : ℤ) → placed j y ≡ timesOf f (unit-of j s) → (S j y ≡ timesOf f (hop j s)) × (H j y ≡ f *ℤ delay j s)
   unfolding timesOf
-  times-apart y f t = let e = unfour t in (ap₂ (λ (u v : ℤ). u ∷ v ∷ []) (e .1) (e .2), e .0)
+  times-apart y f t = let e = unfour t in (two (e .1) (e .2), e .0)
 
   -- f of the equation is where they meet, if it collides there, and else nowhere
   module _ (y : List ℤ) (f : ℤ) {t : Stream} {n : ℕ} {r : Bool} (same : t ≡ stream j s) (h : n ≡ g j s) (e : placed j y ≡ timesOf f (unit-of j s)) (c : Tells (Collide (t .kind) (entries (t .d)) n y f) r) where

@@ -16,16 +16,16 @@ use Rattle.reader.specs.Pieces.{part, Headed, BoxIn, StreamAt, RowAt}
 use Rattle.reader.proofs.Places.{part-bytes, pair-bytes, joined-parts}
 
 -- zeros are unused
-pub zero-unused : (n : ℕ) (v : Vector) → v ≡ zeroVector → Unused n v
+zero-unused : (n : ℕ) (v : Vector) → v ≡ zeroVector → Unused n v
 zero-unused n v e = rw e ((λ h. refl), ((λ h. refl), ((λ h. refl), ((λ h. refl), tt))))
 
 -- and so is a stream of zeros
-pub none-idle : (t : Stream) → t ≡ noStream → Idle t
+none-idle : (t : Stream) → t ≡ noStream → Idle t
 none-idle t e = rw e record { vector = zero-unused 0 zeroVector refl; kind = refl; rule = refl; sources = (refl, refl) }
 
 module _ (s : List ℕ) (h : Headed s) (n k m : ℕ) (en : n ≡ at s 2) (ek : k ≡ at s 3) (em : m ≡ at s 4) where
   -- the bytes are as many as the counts ask
-  pub whole : length s ≡ totalOf 1 n k m
+  whole : length s ≡ totalOf 1 n k m
   whole = h .whole ∙ h .placed .total ∙ rw (en, ek, em)
 
   -- the counts are in range, and there are bytes for them
@@ -33,7 +33,7 @@ module _ (s : List ℕ) (h : Headed s) (n k m : ℕ) (en : n ≡ at s 2) (ek : k
   room = let d = h .counted in ((omega arith, omega arith, omega arith), omega (arith, whole))
 
   -- the first 16 bytes are the header
-  pub header-is : ((i : ℕ) → at s i < 256) → headerOf 1 n k m ≡ take 16 s
+  header-is : ((i : ℕ) → at s i < 256) → headerOf 1 n k m ≡ take 16 s
   unfolding headerOf
   header-is b =
       let c = h .counted in

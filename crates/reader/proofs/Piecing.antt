@@ -30,19 +30,19 @@ zeros-held = record { x0 = zero-held; x1 = zero-held; x2 = zero-held; x3 = zero-
 
 module _ {l : List ℕ} {i : ℕ} {z : ℤ} (e : EntryAt l i z) where
   -- the entry's byte
-  pub entry-byte : entryBytes 1 z ≡ at l i ∷ []
+  entry-byte : entryBytes 1 z ≡ at l i ∷ []
   entry-byte = let b : complement 1 z % 256 ≡ at l i = omega (arith, below-256 z (e .held), e .byte) in rw b
 
   -- past the end the entry is 0
-  pub entry-past : length l ≤ i → z ≡ pos 0
+  entry-past : length l ≤ i → z ≡ pos 0
   entry-past h = byte-injective z (pos 0) (e .held) zero-held (e .byte ∙ List·getD-eq-default l 0 h)
 
 -- entries are held in bytes
-pub entries-held : {l : List ℕ} {p q t u : ℕ} {v : Vector} → EntriesAt l p q t u v → Held v
+entries-held : {l : List ℕ} {p q t u : ℕ} {v : Vector} → EntriesAt l p q t u v → Held v
 entries-held e = record { x0 = e .x0 .held; x1 = e .x1 .held; x2 = e .x2 .held; x3 = e .x3 .held }
 
 -- those past the end are 0
-pub entries-unused : {l : List ℕ} {p q t u : ℕ} {v : Vector} (n : ℕ) → EntriesAt l p q t u v → (n ≤ 0 → length l ≤ p) → (n ≤ 1 → length l ≤ q) → (n ≤ 2 → length l ≤ t) → (n ≤ 3 → length l ≤ u) → Unused n v
+entries-unused : {l : List ℕ} {p q t u : ℕ} {v : Vector} (n : ℕ) → EntriesAt l p q t u v → (n ≤ 0 → length l ≤ p) → (n ≤ 1 → length l ≤ q) → (n ≤ 2 → length l ≤ t) → (n ≤ 3 → length l ≤ u) → Unused n v
 entries-unused n e p q t u = ((λ h. entry-past (e .x0) (p h)), ((λ h. entry-past (e .x1) (q h)), ((λ h. entry-past (e .x2) (t h)), ((λ h. entry-past (e .x3) (u h)), tt))))
 
 module _ (l : List ℕ) (v : Vector) where

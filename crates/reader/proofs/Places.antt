@@ -21,7 +21,7 @@ part-bytes s i zero h = refl
 part-bytes s i (suc w) h = ap (take (suc w)) (drop-cons s i 0 (omega arith)) ∙ ap (λ (l : List ℕ). at s i ∷ l) (part-bytes s (suc i) w (omega arith))
 
 -- two parts, one after the other
-pub part-next : (s : List ℕ) (from w v : ℕ) → part s from w ++ part s (from + w) v ≡ part s from (w + v)
+part-next : (s : List ℕ) (from w v : ℕ) → part s from w ++ part s (from + w) v ≡ part s from (w + v)
 part-next s from w v = rw (take-add w v (drop from s), drop-drop w from s)
 
 module _ {A : Type 0} (f : A → List ℕ) (s : List ℕ) (from w : ℕ) where

@@ -46,7 +46,7 @@ row-held : (i m : ℕ) (v : Vector) → (i < m → Sized 127 (entries v)) → (m
 row-held i m v f g = by-place i m (λ h. sized-held (omega arith) (f h)) (λ h. unused-held v (g h))
 
 -- so it is laid out by its file
-pub acceptable-lays : (j : Job) (s : List ℕ) → Acceptable j → fileOf j ≡ s → Lays j s
+acceptable-lays : (j : Job) (s : List ℕ) → Acceptable j → fileOf j ≡ s → Lays j s
 acceptable-lays j s a e =
     let t = a .sound in
     let i = a .shaped .idle in
@@ -71,7 +71,7 @@ module _ (j : Job) (a : Shaped j) where
   small-total = omega (arith, total-small _ _ _ (a .dimensions .1) (a .places .1) (a .streams .1))
 
   -- the header passes
-  pub file-headed : Headed (fileOf j)
+  file-headed : Headed (fileOf j)
   unfolding fileOf headerOf
   file-headed = record {
     long = omega (arith, file-length j a);
@@ -87,7 +87,7 @@ module _ (j : Job) (a : Shaped j) where
   }
 
 -- no check refuses it
-pub acceptable-first : (j : Job) (s : List ℕ) → Acceptable j → fileOf j ≡ s → First (fileChecks s) 0
+acceptable-first : (j : Job) (s : List ℕ) → Acceptable j → fileOf j ≡ s → First (fileChecks s) 0
 acceptable-first j s a e = record-first s (subst Headed e (file-headed j (a .shaped))) j (acceptable-lays j s a e) 0 (acceptable j a)
 
 -- two replies to the same bytes are one

@@ -48,7 +48,7 @@ hop-sized : (j : Job) (s : ℕ) → Acceptable j → s < j .m → Sizes limit (h
 hop-sized j s a h = let u = unit-sized j s a h .each in (u .1 .0, (u .1 .1 .0, tt))
 
 -- what is asked of its shape
-pub shaped : {j : Job} → Runnable j → {s : ℕ} → s < j .m → {b : Band} → Banded j s b → Shaped b
+shaped : {j : Job} → Runnable j → {s : ℕ} → s < j .m → {b : Band} → Banded j s b → Shaped b
 shaped {j} R {s} h B =
     let r = subst (SidesSized limit) (sym (B .rectangle)) (rectangle-sized j (R .acceptable)) in
     let e = subst (Sizes limit) (sym (B .hop)) (hop-sized j s (R .acceptable) h) in

@@ -21,16 +21,16 @@ use Rattle.verdict.specs.Replies.{FirstPair}
 
 -- two points of a box are as long, and the second is the first and their difference
 module _ (B : Box) (p q : List ℤ) (w : Pair B p q) where
-  pub same-length : length p ≡ length q
+  same-length : length p ≡ length q
   same-length = in-length B p (w .first) ∙ sym (in-length B q (w .second))
 
-  pub there-again : plusOf p (minusOf q p) ≡ q
+  there-again : plusOf p (minusOf q p) ≡ q
   there-again = plus-minus p q same-length
 
-  pub pair-forward : Forward (minusOf q p)
+  pair-forward : Forward (minusOf q p)
   pair-forward = before-forward p q (w .order)
 
-  pub pair-apart : Apart B (minusOf q p)
+  pair-apart : Apart B (minusOf q p)
   pair-apart =
       record {
         long = minus-length q p (sym same-length) ∙ in-length B q (w .second);
@@ -113,7 +113,7 @@ cell-by-gap j =
 pub meets-meeting : (j : Job) (s : ℕ) (p q : List ℤ) (f : ℤ) → (Stationary j s → ⊥) → Pair (senders j s) p q → Meets j s (minusOf q p) f → Meeting j s p q f
 meets-meeting j s p q f m w h = record { moving = m; pair = w; place = h .place; time = h .time; collide = h .collide }
 
-pub meeting-meets : (j : Job) (s : ℕ) (p q : List ℤ) (f : ℤ) → Meeting j s p q f → Meets j s (minusOf q p) f
+meeting-meets : (j : Job) (s : ℕ) (p q : List ℤ) (f : ℤ) → Meeting j s p q f → Meets j s (minusOf q p) f
 meeting-meets j s p q f h = record { place = h .place; time = h .time; collide = h .collide }
 
 pub link-by-gap : (j : Job) (s : ℕ) → (Stationary j s → ⊥) → ByGap (MeetingSome j s) (senders j s) (MeetsSome j s)

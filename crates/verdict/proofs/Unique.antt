@@ -67,7 +67,7 @@ module _ {P : List ℤ → List ℤ → Type 0} {p q p′ q′ : List ℤ} (f : 
   same-end : length p ≡ length q → length p′ ≡ length q′ → q ≡ q′
   same-end a b = sym (plus-minus p q a) ∙ ap₂ plusOf same-point same-gap ∙ plus-minus p′ q′ b
 
-pub pair-unique : {P : List ℤ → List ℤ → Type 0} (c c′ : Pair) → FirstPair P (entries (c .p)) (entries (c .q)) → FirstPair P (entries (c′ .p)) (entries (c′ .q)) → c ≡ c′
+pair-unique : {P : List ℤ → List ℤ → Type 0} (c c′ : Pair) → FirstPair P (entries (c .p)) (entries (c .q)) → FirstPair P (entries (c′ .p)) (entries (c′ .q)) → c ≡ c′
 pair-unique c c′ f f′ = made (c .p) (c .q) (c′ .p) (c′ .q) (vector-of (same-point f f′)) (vector-of (same-end f f′ refl refl))
   where
     made : (p q p′ q′ : Vector) → p ≡ p′ → q ≡ q′ → _≡_ {A = Pair} (record { p = p; q = q }) (record { p = p′; q = q′ })
