@@ -13,8 +13,8 @@ ghost use Rattle.tables.specs.Columns.{Ready, Column};
 
 // Where a table of so many points holds the entry for stream s and the point at place k.
 pub fn place_in_table(s: u8, points: u64, k: u64) -> usize
-    requires { ⌜ (s ≤ 4) × (points ≤ 1024) × (k ≤ 1024) ⌝ }
-    ensures few { λ r. ⌜ r ≤ 5120 ⌝ }
+    requires { ⌜ (s ≤ 4) × (points ≤ 4096) × (k ≤ 4096) ⌝ }
+    ensures few { λ r. ⌜ r ≤ 20480 ⌝ }
     ensures is { λ r. ⌜ r ≡ s * points + k ⌝ }
 {
     ((s as u64) * points + k) as usize
@@ -23,7 +23,7 @@ pub fn place_in_table(s: u8, points: u64, k: u64) -> usize
 // How many values a table of the job has.
 pub fn size_of(j: Job) -> usize
     requires { ⌜ Acceptable j ⌝ }
-    ensures few { λ r. ⌜ r ≤ 4096 ⌝ }
+    ensures few { λ r. ⌜ r ≤ 16384 ⌝ }
     ensures is { λ r. ⌜ r ≡ j .m * pointsOf j ⌝ }
 {
     place_in_table(j.m, boxes::count(j.bounds), 0)

@@ -43,19 +43,19 @@ count-requires : tie.Need-count-requires
 count-requires c κs = walkable (past (c .before .before .before .before))
 
 -- past all tests the row ends within the table, which is short
-ends : (c : tie.After-count) → (c .before .before .before .before .before .before .before .before .args .s * c .count .result + c .count .result ≤ c .before .before .before .before .size-of .result) × (c .before .before .before .before .size-of .result ≤ 4096)
+ends : (c : tie.After-count) → (c .before .before .before .before .before .before .before .before .args .s * c .count .result + c .count .result ≤ c .before .before .before .before .size-of .result) × (c .before .before .before .before .size-of .result ≤ 16384)
 ends c =
     let z = c .before .before .before .before .size-of .ensures in
     (omega (arith, z .1, row-end (c .before .before .before .before .before .before .before .before .args .j) (c .count .result) (c .count .ensures) (c .before .before .before .before .before .before .before .before .args .s) (c .before .if3 .left)), z .0)
 
 mul-from : tie.Need-mul-from
-mul-from c = let h = ends c in fits-under {b = 4096} (omega arith) tt
+mul-from c = let h = ends c in fits-under {b = 16384} (omega arith) tt
 
 add-end : tie.Need-add-end
-add-end c = let h = ends c in fits-under {b = 4096} (omega arith) tt
+add-end c = let h = ends c in fits-under {b = 16384} (omega arith) tt
 
 mul-result : tie.Need-mul-result
-mul-result c = let h = ends c in fits-under {b = 16384} (omega arith) tt
+mul-result c = let h = ends c in fits-under {b = 65536} (omega arith) tt
 
 sub-result : tie.Need-sub-result
 sub-result c = search needs

@@ -1,4 +1,4 @@
--- At most 4 × 1,024 and 1,024 more.
+-- At most 4 × 4,096, the points of request 8, and 4,096 more.
 use mathlib.Core.Path.{refl}
 use native.Mathlib.Nat.{mul-le-mul}
 use native.Mathlib.Omega.{arith}
