@@ -2,3 +2,12 @@ pub mod RunLaws
 pub mod ReplyLaws
 pub mod UniqueTicks
 pub mod UniqueReplies
+pub mod RoomLaws
+pub mod LendingLaws
+pub mod WorkLaws
+pub mod StoreLaws
+pub mod PointLaws
+pub mod TickLaws
+pub mod LoopLaws
+pub mod LoopUnique
+pub mod Unique

@@ -7,23 +7,23 @@ use native.Mathlib.Omega.{arith}
 use lib.ListN.{length}
 use Rattle.job.specs.declared.Job.{Job}
 use Rattle.job.specs.Refusals.{First}
-use Rattle.verdict.specs.Replies.{Says}
-use Rattle.verdict.specs.declared.Size.{Size}
+use Rattle.verdict.specs.Verdicts.{Says}
+use Rattle.verdict.specs.declared.Extent.{Extent}
 use Rattle.verdict.specs.declared.Verdict.the-variants.{Accepted}
 use Rattle.verdict.proofs.Accepted.{accepted-limits, accepted-ahead}
 use Rattle.frame.specs.declared.Frame.{Frame}
 use Rattle.frame.specs.Framing.{Framed}
-use Rattle.tick.specs.Steps.{Runnable, Tabled, Roomy}
-use Rattle.answers.specs.Answers.{runChecks, tickChecks}
-use Rattle.answers.proofs.AnswerLaws.{passed}
+use Rattle.array.specs.Steps.{Runnable, Tabled, Roomy}
+use Rattle.checks.specs.Answers.{runChecks, tickChecks}
+use Rattle.checks.proofs.AnswerLaws.{passed}
 
 -- an accepted job may run if its room is inside the size limit
-pub accepted-runs : {j : Job} {z : Size} → Says j (Accepted z) → z .room ≤ 8192 → Runnable j
+pub accepted-runs : {j : Job} {z : Extent} → Says j (Accepted z) → z .room ≤ 8192 → Runnable j
 accepted-runs {j} {z} s h =
     record { acceptable = accepted-limits s; ahead = accepted-ahead s .1; even = s .kept .0 .0 .1; few = subst (λ (n : ℕ). n ≤ 8192) (s .claim .room) h }
 
 -- ---- all checks passed
-module _ {j : Job} {z : Size} (s : Says j (Accepted z)) {a b n : ℕ} (p : First (runChecks j a b n z) 0) where
+module _ {j : Job} {z : Extent} (s : Says j (Accepted z)) {a b n : ℕ} (p : First (runChecks j a b n z) 0) where
   -- a tick past the end
   pub tick-late : (t : ℕ) → z .ticks ≤ t → First (tickChecks t j a b n z) 16
   tick-late t h = let q = passed j a b n z p in inl (q .0, inl (q .1, inl (q .2, inr ((λ l. omega arith), refl))))

@@ -8,10 +8,10 @@ use lib.ListN.{length, getD, set, drop, replicate, length-replicate, length-appe
 use lib.Seq.{drop-cons, set-at}
 use Rattle.job.specs.declared.Job.{Job}
 use Rattle.frame.specs.declared.Frame.{Frame}
-use Rattle.tick.specs.Ticks.{Ticked}
+use Rattle.array.specs.Ticks.{Ticked}
 use Rattle.array.specs.Runs.{Ran, cleared}
 use Rattle.array.specs.Runs.Ran.{ready, ticked}
-use Rattle.tick.specs.Steps.{Tabled}
+use Rattle.array.specs.Steps.{Tabled}
 
 -- ---- clearing
 one-more : (i a : ℕ) (ys : List ℕ) → replicate i a ++ (a ∷ ys) ≡ a ∷ (replicate i a ++ ys)

@@ -9,20 +9,23 @@ use native.Mathlib.Omega.{arith}
 use lib.ListN.{length, getD, drop}
 use lib.Seq.{ext-getD, getD-drop}
 use Rattle.job.specs.declared.Job.{Job}
-use Rattle.tables.specs.Tables.{points, entryFor}
-use Rattle.mapping.specs.Frames.{cells, tickOf, w, from, room, held}
-use Rattle.tick.specs.Ticks.{Ticked}
+use Rattle.job.specs.Record.{points}
+use Rattle.tables.specs.Tables.{entryFor}
+use Rattle.verdict.specs.Extents.{cells, room}
+use Rattle.verdict.specs.Mapping.{w}
+use Rattle.frame.specs.Frames.{tickOf, from, inPlace}
+use Rattle.array.specs.Ticks.{Ticked}
 use Rattle.array.specs.Runs.{Ran}
 use Rattle.array.specs.Runs.Ran.{ready, ticked}
-use Rattle.tick.specs.Steps.{Runnable}
-use Rattle.tick.proofs.RoomLaws.{from-next, delay-some}
-use Rattle.tick.proofs.LendingLaws.{from-first}
+use Rattle.array.specs.Steps.{Runnable}
+use Rattle.array.proofs.RoomLaws.{from-next, delay-some}
+use Rattle.array.proofs.LendingLaws.{from-first}
 use Rattle.tables.proofs.TableLaws.{tables-same}
 use Rattle.array.proofs.RunLaws.{ran-size}
 
 -- ---- tables
 -- places that hold the same for every stream, cell and turn
-module _ (j : Job) (R : Runnable j) (a b : List ℕ) (same : (s x r : ℕ) → s < j .m → x < cells j → r < w j s → held j a s x r ≡ held j b s x r) where
+module _ (j : Job) (R : Runnable j) (a b : List ℕ) (same : (s x r : ℕ) → s < j .m → x < cells j → r < w j s → inPlace j a s x r ≡ inPlace j b s x r) where
   -- are the same in the band of a stream
   band-same : (s i : ℕ) → s < j .m → i < cells j * w j s → getD a (from j s + i) 0 ≡ getD b (from j s + i) 0
   band-same s i ls li =
@@ -62,7 +65,7 @@ module _ (j : Job) (R : Runnable j) (input : List ℕ) where
     tables-same j v v′ (a .length-values ∙ size) (b .length-values ∙ size) (λ s k ls lk. entry s k ls lk (ℕ-discrete (tickOf j k) t)),
   )
     where
-      turn : (s x r : ℕ) → s < j .m → x < cells j → r < w j s → Dec (r ≡ t % w j s) → held j p s x r ≡ held j p′ s x r
+      turn : (s x r : ℕ) → s < j .m → x < cells j → r < w j s → Dec (r ≡ t % w j s) → inPlace j p s x r ≡ inPlace j p′ s x r
       turn s x r ls lx lr (yes e) = rw e (a .stores s x ls lx ∙ sym (b .stores s x ls lx))
       turn s x r ls lx lr (no ne) = a .keeps s x r ls lx lr ne ∙ sym (b .keeps s x r ls lx lr ne)
 

@@ -6,11 +6,11 @@ use lib.ListN.{length, drop, replicate}
 use Rattle.job.specs.declared.Job.{Job}
 use Rattle.reader.specs.Reading.{OfBytes}
 use Rattle.verdict.specs.declared.Verdict.the-variants.{Limit}
-use Rattle.mapping.specs.Frames.{ticks, room}
-use Rattle.tick.specs.Ticks.{Ticked}
-use Rattle.answers.specs.Answers.{runChecks, tickChecks, Replies}
-use Rattle.answers.specs.declared.Reply.{Reply}
-use Rattle.answers.specs.declared.Reply.the-variants.{Refused}
+use Rattle.verdict.specs.Extents.{ticks, room}
+use Rattle.array.specs.Ticks.{Ticked}
+use Rattle.checks.specs.Answers.{runChecks, tickChecks, Replies}
+use Rattle.checks.specs.declared.RunReply.{RunReply}
+use Rattle.checks.specs.declared.RunReply.the-variants.{Refused}
 
 -- ticks 0 to n - 1 in order
 pub data Ran (j : Job) (input places values : List ℕ) : ℕ → List ℕ → List ℕ → Type 0 where
@@ -22,15 +22,15 @@ abbrev pub cleared : ℕ → List ℕ → List ℕ
 cleared n places = replicate n 0 ++ drop n places
 
 -- 'A run clears the first R places and does every tick in order; it answers the tick count'
-abbrev pub Runs : Job → List ℕ → List ℕ → List ℕ → List ℕ → List ℕ → Reply → Type 0
+abbrev pub Runs : Job → List ℕ → List ℕ → List ℕ → List ℕ → List ℕ → RunReply → Type 0
 Runs j input values places values′ places′ r =
     Replies j (runChecks j (length input) (length values) (length places)) (Ran j input (cleared (room j) places) values (ticks j) places′ values′) ((values′ ≡ values) × (places′ ≡ places)) r
 
 -- 'A single tick is public, answers the tick count too and starts from the lent places as they are'
-abbrev pub SingleTick : ℕ → Job → List ℕ → List ℕ → List ℕ → List ℕ → List ℕ → Reply → Type 0
+abbrev pub SingleTick : ℕ → Job → List ℕ → List ℕ → List ℕ → List ℕ → List ℕ → RunReply → Type 0
 SingleTick t j input values places values′ places′ r =
     Replies j (tickChecks t j (length input) (length values) (length places)) (Ticked j input t places values places′ values′) ((values′ ≡ values) × (places′ ≡ places)) r
 
 -- on job bytes: the reader's refusal with nothing altered, or what is said of the job that they are
-abbrev pub RepliesOf : List ℕ → (Job → Type 0) → Type 0 → Reply → Type 0
+abbrev pub RepliesOf : List ℕ → (Job → Type 0) → Type 0 → RunReply → Type 0
 RepliesOf s Is Same r = OfBytes s (λ (number : ℕ). (r ≡ Refused (Limit number)) × Same) Is

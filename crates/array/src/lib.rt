@@ -1,6 +1,11 @@
 // The array: a run of all ticks, and a single tick.
+pub mod lookup;
+pub mod loops;
+mod store;
+pub mod tick;
+mod work;
 
-use answers::Reply;
+use checks::RunReply;
 use frame::Frame;
 use job::Job;
 use verdict::Verdict;
@@ -8,21 +13,21 @@ ghost use mathlib.Core.Path.{_≡_};
 ghost use Prim.Native.Nat.{_≤_};
 ghost use lib.ListN.{length};
 ghost use Rattle.job.specs.declared.Job.{Job};
-ghost use Rattle.tables.specs.Tables.{points as pointsOf};
+ghost use Rattle.job.specs.Record.{points as pointsOf};
 ghost use Rattle.array.specs.Runs.{Ran, cleared, Runs, SingleTick, RepliesOf};
-ghost use Rattle.tick.specs.Steps.{Tabled, Roomy};
+ghost use Rattle.array.specs.Steps.{Tabled, Roomy};
 ghost use Rattle.frame.specs.Framing.{Timed};
 
 // The run of a record: the first R places cleared, then every tick in order.
-pub fn run_of(j: Job, input: &[u32], values: &mut [u32], places: &mut [u32]) -> Reply
+pub fn run_of(j: Job, input: &[u32], values: &mut [u32], places: &mut [u32]) -> RunReply
     ensures { λ r. ⌜ Runs j (now (input .entry)) (now (values .entry)) (now (places .entry)) (now (values .exit)) (now (places .exit)) r ⌝ }
 {
     let v = verdict::verdict_of(j);
     let Verdict::Accepted(size) = v else {
-        return Reply::Refused(v);
+        return RunReply::Refused(v);
     };
-    let reply = answers::lacking(j, size, input.len(), values.len(), places.len());
-    let Reply::Ticks(ticks) = reply else {
+    let reply = checks::lacking(j, size, input.len(), values.len(), places.len());
+    let RunReply::Ticks(ticks) = reply else {
         return reply;
     };
     let f = frame::frame_of(j);
@@ -38,28 +43,28 @@ pub fn run_of(j: Job, input: &[u32], values: &mut [u32], places: &mut [u32]) -> 
         &mut values[..],
         &mut places[..],
     );
-    Reply::Ticks(ticks)
+    RunReply::Ticks(ticks)
 }
 
 // One tick of a record, from the lent places as they are.
-pub fn tick_of(j: Job, t: u64, input: &[u32], values: &mut [u32], places: &mut [u32]) -> Reply
+pub fn tick_of(j: Job, t: u64, input: &[u32], values: &mut [u32], places: &mut [u32]) -> RunReply
     ensures { λ r. ⌜ SingleTick t j (now (input .entry)) (now (values .entry)) (now (places .entry)) (now (values .exit)) (now (places .exit)) r ⌝ }
 {
     let v = verdict::verdict_of(j);
     let Verdict::Accepted(size) = v else {
-        return Reply::Refused(v);
+        return RunReply::Refused(v);
     };
-    let reply = answers::lacking(j, size, input.len(), values.len(), places.len());
-    let Reply::Ticks(ticks) = reply else {
+    let reply = checks::lacking(j, size, input.len(), values.len(), places.len());
+    let RunReply::Ticks(ticks) = reply else {
         return reply;
     };
     if ticks <= t {
-        return Reply::Late;
+        return RunReply::Late;
     }
     let f = frame::frame_of(j);
     let mut timetable = [0u64; frame::TIMETABLE];
     frame::fill_timetable(j, f, &mut timetable[..]);
-    tick::one_tick(
+    crate::tick::one_tick(
         j,
         f,
         &timetable[..],
@@ -68,17 +73,17 @@ pub fn tick_of(j: Job, t: u64, input: &[u32], values: &mut [u32], places: &mut [
         &mut values[..],
         &mut places[..],
     );
-    Reply::Ticks(ticks)
+    RunReply::Ticks(ticks)
 }
 
 // The run of the job that the bytes are.
-pub fn run_of_bytes(s: &[u8], input: &[u32], values: &mut [u32], places: &mut [u32]) -> Reply
+pub fn run_of_bytes(s: &[u8], input: &[u32], values: &mut [u32], places: &mut [u32]) -> RunReply
     ensures { λ r. ⌜ RepliesOf (now (s .entry)) (λ (j : Job). Runs j (now (input .entry)) (now (values .entry)) (now (places .entry)) (now (values .exit)) (now (places .exit)) r) ((now (values .exit) ≡ now (values .entry)) × (now (places .exit) ≡ now (places .entry))) r ⌝ }
 {
     let read = reader::read(s);
     match read {
-        reader::Reply::Refused(number) => Reply::Refused(Verdict::Limit(number)),
-        reader::Reply::Job(j) => run_of(j, input, &mut values[..], &mut places[..]),
+        reader::Reading::Refused(number) => RunReply::Refused(Verdict::Limit(number)),
+        reader::Reading::Job(j) => run_of(j, input, &mut values[..], &mut places[..]),
     }
 }
 
@@ -89,13 +94,13 @@ pub fn tick_of_bytes(
     input: &[u32],
     values: &mut [u32],
     places: &mut [u32],
-) -> Reply
+) -> RunReply
     ensures { λ r. ⌜ RepliesOf (now (s .entry)) (λ (j : Job). SingleTick t j (now (input .entry)) (now (values .entry)) (now (places .entry)) (now (values .exit)) (now (places .exit)) r) ((now (values .exit) ≡ now (values .entry)) × (now (places .exit) ≡ now (places .entry))) r ⌝ }
 {
     let read = reader::read(s);
     match read {
-        reader::Reply::Refused(number) => Reply::Refused(Verdict::Limit(number)),
-        reader::Reply::Job(j) => tick_of(j, t, input, &mut values[..], &mut places[..]),
+        reader::Reading::Refused(number) => RunReply::Refused(Verdict::Limit(number)),
+        reader::Reading::Job(j) => tick_of(j, t, input, &mut values[..], &mut places[..]),
     }
 }
 
@@ -126,7 +131,7 @@ fn all_ticks(
 {
     let mut t: u64 = 0;
     while t < ticks {
-        tick::one_tick(j, f, timetable, t, input, &mut values[..], &mut places[..]);
+        crate::tick::one_tick(j, f, timetable, t, input, &mut values[..], &mut places[..]);
         t += 1;
     }
 }

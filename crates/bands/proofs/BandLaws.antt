@@ -16,12 +16,12 @@ use lib.Signed.{_≤ℤ_, _<ℤ_}
 use Rattle.space.specs.Numbers.{steps}
 use Rattle.space.specs.Vectors.{minusOf}
 use Rattle.space.specs.Order.{Before, AtMost}
-use Rattle.boxes.specs.Boxes.{Box, Side, side, In, across, countOf, placeOf, pointOf, backOf, given}
+use Rattle.space.specs.Boxes.{Box, Side, side, In, across, countOf, placeOf, pointOf, backOf, given}
 use Rattle.space.proofs.Parts.{int, sum, difference, magnitude}
 use Rattle.space.proofs.Ints.{trichotomy}
 use Rattle.space.proofs.VectorLaws.{two}
-use Rattle.boxes.proofs.BoxLaws.{point-in, place-point, before-place}
-use Rattle.boxes.proofs.BackLaws.{back-some, back-below}
+use Rattle.space.proofs.BoxLaws.{point-in, place-point, before-place}
+use Rattle.space.proofs.BackLaws.{back-some, back-below}
 use Rattle.bands.specs.declared.Band.{Band}
 use Rattle.bands.specs.Bands.{rectangleOf, hopOf, at, arrivalIn, Lent, Shifted}
 use Rattle.bands.specs.Turns.{turnOf}

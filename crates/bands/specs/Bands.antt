@@ -5,7 +5,7 @@ use Prim.Native.Nat.{ℕ, _+_, _*_, _<_, _≤_}
 use lib.ListN.{length, getD}
 use lib.IntN.{ℤ}
 use Rattle.space.specs.Numbers.{Size, limit, roomLimit}
-use Rattle.boxes.specs.Boxes.{Box, side, Solid, countOf, backOf, given}
+use Rattle.space.specs.Boxes.{Box, side, Solid, countOf, backOf, given}
 use Rattle.bands.specs.declared.Band.{Band}
 
 -- the rectangle of cells, and one hop
@@ -24,7 +24,7 @@ abbrev pub arrivalIn : Band → ℕ → List ℕ → ℕ → ℕ
 arrivalIn b slot places x = given (backOf (rectangleOf b) (hopOf b) x) 0 (λ (y : ℕ). at (b .w) places y slot)
 
 -- what the code asks of a shape: numbers that fit, and at most 8,192 cells
-pub record Shaped (b : Band) : Type 0 where
+pub record Bounded (b : Band) : Type 0 where
   pub first : Size limit (b .low0) × Size limit (b .high0) × Size limit (b .hop0)
   pub second : Size limit (b .low1) × Size limit (b .high1) × Size limit (b .hop1)
   pub solid : Solid (rectangleOf b)
@@ -32,7 +32,7 @@ pub record Shaped (b : Band) : Type 0 where
 
 -- a band lent to be read or rewritten at one place of every cell
 pub record Lent (b : Band) (slot : ℕ) (places : List ℕ) : Type 0 where
-  pub shaped : Shaped b
+  pub shaped : Bounded b
   pub inside : slot < b .w
   pub size : length places ≡ countOf (rectangleOf b) * b .w
   pub few : countOf (rectangleOf b) * b .w ≤ roomLimit

@@ -1,11 +1,11 @@
 // One stream's band of register places: the cells of a rectangle, row by row, w places each. In a tick one place of every cell takes what arrives there from one hop back.
-use boxes::Found;
+use space::boxes::Found;
 ghost use mathlib.Core.Path.{_≡_};
 ghost use mathlib.Core.Bool.{true, false};
 ghost use mathlib.Core.Option.{some};
 ghost use Prim.Native.Nat.{ℕ, _<_, _≤_};
-ghost use Rattle.boxes.specs.Boxes.{backOf, countOf, foundOf};
-ghost use Rattle.bands.specs.Bands.{rectangleOf, hopOf, arrivalIn, Shaped, Lent, Shifted};
+ghost use Rattle.space.specs.Boxes.{backOf, countOf, foundOf};
+ghost use Rattle.bands.specs.Bands.{rectangleOf, hopOf, arrivalIn, Bounded, Lent, Shifted};
 ghost use Rattle.bands.specs.Turns.{turnOf};
 
 // The shape of a band: the rectangle of cells, one hop, and how many places a cell has.
@@ -21,14 +21,16 @@ pub struct Band {
 
 // The cell one hop before cell x, if it is in the rectangle.
 fn behind(b: Band, x: u64) -> Found
-    requires { ⌜ Shaped b × (x < countOf (rectangleOf b)) ⌝ }
+    requires { ⌜ Bounded b × (x < countOf (rectangleOf b)) ⌝ }
     ensures { λ r. ⌜ foundOf r ≡ backOf (rectangleOf b) (hopOf b) x ⌝ }
 {
     let columns = (b.high1 - b.low1) as u64 + 1;
     let y0 = b.low0 + (x / columns) as i64 - b.hop0;
     let y1 = b.low1 + (x % columns) as i64 - b.hop1;
-    if boxes::within(b.low0, y0, b.high0) & boxes::within(b.low1, y1, b.high1) {
-        Found::At(boxes::steps_above(b.low0, y0) * columns + boxes::steps_above(b.low1, y1))
+    if space::boxes::within(b.low0, y0, b.high0) & space::boxes::within(b.low1, y1, b.high1) {
+        Found::At(
+            space::boxes::steps_above(b.low0, y0) * columns + space::boxes::steps_above(b.low1, y1),
+        )
     } else {
         Found::Nowhere
     }
@@ -36,7 +38,7 @@ fn behind(b: Band, x: u64) -> Found
 
 // Does one hop back never lead to a higher cell? (Otherwise it never leads to a lower one.)
 fn falls(b: Band) -> bool
-    requires { ⌜ Shaped b ⌝ }
+    requires { ⌜ Bounded b ⌝ }
     ensures down { λ r. ⌜ (r ≡ true → (x y : ℕ) → x < countOf (rectangleOf b) → backOf (rectangleOf b) (hopOf b) x ≡ some y → y ≤ x) ⌝ }
     ensures up { λ r. ⌜ (r ≡ false → (x y : ℕ) → x < countOf (rectangleOf b) → backOf (rectangleOf b) (hopOf b) x ≡ some y → x ≤ y) ⌝ }
 {

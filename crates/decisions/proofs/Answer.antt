@@ -8,46 +8,47 @@ use lib.ListN.{getD}
 use lib.IntN.{ℤ, pos, natAbs, _*ℤ_}
 use lib.Signed.{quotZ}
 use Rattle.space.specs.declared.Vector.{Vector}
-use Rattle.boxes.specs.declared.Bounds.{Bounds}
+use Rattle.space.specs.declared.boxes.Bounds.{Bounds}
 use Rattle.space.specs.Vectors.{entries, dotOf, plusOf, minusOf, timesOf}
-use Rattle.divisors.specs.Divisors.{gcdOf}
-use Rattle.boxes.specs.Boxes.{boxOf, Solid, countOf, placeOf, pointOf, cornerOf, leastOf, greatestOf}
+use Rattle.space.specs.Divisors.{gcdOf}
+use Rattle.space.specs.Boxes.{boxOf, Solid, countOf, placeOf, pointOf, cornerOf, leastOf, greatestOf}
 use Rattle.space.proofs.Ints.{times-none, whole-quot}
 use Rattle.space.proofs.VectorLaws.{minus-plus}
-use Rattle.divisors.proofs.MultipleLaws.{times-cancel}
-use Rattle.boxes.proofs.BoxLaws.{place-below}
-use Rattle.boxes.proofs.PairLaws.{startOf, start-in, start-least, in-apart, apart-in}
-use Rattle.boxes.proofs.PairLaws as PairLaws
+use Rattle.space.proofs.MultipleLaws.{times-cancel}
+use Rattle.space.proofs.BoxLaws.{place-below}
+use Rattle.space.proofs.PairLaws.{startOf, start-in, start-least, in-apart, apart-in}
+use Rattle.space.proofs.PairLaws as PairLaws
 use Rattle.job.specs.declared.Job.{Job}
 use Rattle.job.specs.Refusals.{First}
 use Rattle.job.specs.Limits.{limits}
 use Rattle.job.proofs.Refusing.{accepted}
-use Rattle.mapping.specs.Mapping.{box, stream, along, H, S, g, Stationary}
-use Rattle.mapping.specs.Collisions.{Collide, senders}
-use Rattle.mapping.specs.Courses.{placed}
-use Rattle.mapping.specs.Searches.{Still, Meets, MeetsSome, Finds-gap}
-use Rattle.mapping.specs.declared.walk.Gap.{Gap}
-use Rattle.mapping.specs.declared.walk.Gap.the-variants as Gap
-use Rattle.verdict.specs.Rules.{Ahead, Even, Meeting, Clear, Keeps, Sizes}
-use Rattle.verdict.specs.Replies.{Lowest, FirstPair, Says}
-use Rattle.verdict.specs.Searches.{Finds, Finds-crowd, Finds-jam, Finds-jams}
-use Rattle.verdict.specs.declared.Size.{Size}
+use Rattle.job.specs.Record.{box, stream, along}
+use Rattle.verdict.specs.Mapping.{H, S, g, Stationary}
+use Rattle.verdict.specs.Collisions.{IsCollision, senders}
+use Rattle.verdict.specs.Courses.{timeAndPlace}
+use Rattle.verdict.specs.Walks.{Still, CollidesBy, CollidesBySome, FindsGap}
+use Rattle.verdict.specs.declared.walk.FoundGap.{FoundGap}
+use Rattle.verdict.specs.declared.walk.FoundGap.the-variants as FoundGap
+use Rattle.verdict.specs.Rules.{Ahead, Even, Collides, Clear, Keeps, ExtentOf}
+use Rattle.verdict.specs.Verdicts.{Lowest, FirstPair, Says}
+use Rattle.verdict.specs.Searches.{FindsStream, FindsPair, FindsCollisionOn, FindsCollision}
+use Rattle.verdict.specs.declared.Extent.{Extent}
 use Rattle.verdict.specs.declared.Pair.{Pair}
 use Rattle.verdict.specs.declared.Verdict.{Verdict}
 use Rattle.verdict.specs.declared.Verdict.the-variants.{Accepted, Limit, Precedence, Hop, Cell, Link}
-use Rattle.verdict.specs.declared.rules.Broken.{Broken}
-use Rattle.verdict.specs.declared.rules.Broken.the-variants as Broken
-use Rattle.verdict.specs.declared.rules.Crowd.{Crowd}
-use Rattle.verdict.specs.declared.rules.Crowd.the-variants as Crowd
-use Rattle.verdict.specs.declared.rules.Jam.{Jam}
-use Rattle.verdict.specs.declared.rules.Jam.the-variants as Jam
+use Rattle.verdict.specs.declared.rules.FoundStream.{FoundStream}
+use Rattle.verdict.specs.declared.rules.FoundStream.the-variants as FoundStream
+use Rattle.verdict.specs.declared.rules.FoundPair.{FoundPair}
+use Rattle.verdict.specs.declared.rules.FoundPair.the-variants as FoundPair
+use Rattle.verdict.specs.declared.rules.FoundCollision.{FoundCollision}
+use Rattle.verdict.specs.declared.rules.FoundCollision.the-variants as FoundCollision
 use Rattle.decisions.proofs.Decisions.{Decided, holding, failing, alike, both, contrary, given, below, atMost, divides, atMostℤ, equalℤ, same, cases}
 use Rattle.decisions.proofs.LimitDecisions.{number}
-use Rattle.mapping.proofs.Gaps.{zerosOf, Spread, Passed, passed-first, passed-more, gap-found, gap-nowhere}
-use Rattle.mapping.proofs.Gaps as Gaps
-use Rattle.mapping.proofs.Meetings.{unit-of, unit-nonzero, apart-times, times-apart}
+use Rattle.verdict.proofs.Gaps.{zerosOf, Spread, Passed, passed-first, passed-more, gap-found, gap-nowhere}
+use Rattle.verdict.proofs.Gaps as Gaps
+use Rattle.verdict.proofs.Meetings.{unit-of, unit-nonzero, apart-times, times-apart}
 use Rattle.verdict.proofs.FirstPairs.{ByGap, cell-by-gap, link-by-gap, meets-meeting, no-pair, first-pair}
-use Rattle.mapping.specs.Frames.{cells, ticks, room}
+use Rattle.verdict.specs.Extents.{cells, ticks, room}
 
 -- ---- precedence and hop: the lowest of m streams of which P does not hold
 module _ (P : ℕ → Type 0) (d : (t : ℕ) → Decided (P t)) where
@@ -57,14 +58,14 @@ module _ (P : ℕ → Type 0) (d : (t : ℕ) → Decided (P t)) where
   one-more m s h p w (no l) = w s (omega arith)
 
   -- the lowest of one stream more
-  abbrev next : (m : ℕ) (r : Broken) → Finds P m r → (r : Broken) × Finds P (suc m) r
-  next m (Broken.At s) w = (Broken.At s, record { below = let h = w .below in omega arith; broken = w .broken; kept = w .kept })
-  next m Broken.Nowhere w =
-      cases (d m) (λ p. (Broken.Nowhere, λ s h. one-more m s h p w (decLe m s))) (λ n. (Broken.At m, record { below = omega arith; broken = n; kept = w }))
+  abbrev next : (m : ℕ) (r : FoundStream) → FindsStream P m r → (r : FoundStream) × FindsStream P (suc m) r
+  next m (FoundStream.At s) w = (FoundStream.At s, record { below = let h = w .below in omega arith; broken = w .broken; kept = w .kept })
+  next m FoundStream.Nowhere w =
+      cases (d m) (λ p. (FoundStream.Nowhere, λ s h. one-more m s h p w (decLe m s))) (λ n. (FoundStream.At m, record { below = omega arith; broken = n; kept = w }))
 
   -- the lowest of m streams, or none
-  abbrev lowest-of : (m : ℕ) → (r : Broken) × Finds P m r
-  lowest-of zero = (Broken.Nowhere, λ s h. absurd (omega arith))
+  abbrev lowest-of : (m : ℕ) → (r : FoundStream) × FindsStream P m r
+  lowest-of zero = (FoundStream.Nowhere, λ s h. absurd (omega arith))
   lowest-of (suc m) = let w = lowest-of m in next m (w .0) (w .1)
 
 -- Hd is at least 1
@@ -109,7 +110,7 @@ unmultiplied y d = let q = quotient y d in alike (λ n z e. n (q .1 z e)) (λ h.
 
 -- ---- meetings
 -- two tokens of a kind, y apart and f hops, collide
-unfoldable collides : (kind : ℕ) (d : List ℤ) (g : ℕ) (y : List ℤ) (f : ℤ) → Decided (Collide kind d g y f)
+unfoldable collides : (kind : ℕ) (d : List ℤ) (g : ℕ) (y : List ℤ) (f : ℤ) → Decided (IsCollision kind d g y f)
 unfolding unmultiplied
 collides zero d g y f = unmultiplied y d
 collides (suc kind) d g y f = both (atMost 1 (natAbs f)) (below (natAbs f) g)
@@ -123,27 +124,27 @@ module _ (j : Job) (s : ℕ) where
   -- the only number of hops at which points y apart can meet
   unfoldable pub hopsAt : List ℤ → ℤ
   unfolding quotient dotOf gcdOf
-  hopsAt y = quotient (placed j y) (unit-of j s) .0
+  hopsAt y = quotient (timeAndPlace j y) (unit-of j s) .0
 
   -- whatever points y apart meet at is it
-  pub hops-are : (y : List ℤ) (f : ℤ) → (Stationary j s → ⊥) → Meets j s y f → f ≡ hopsAt y
+  pub hops-are : (y : List ℤ) (f : ℤ) → (Stationary j s → ⊥) → CollidesBy j s y f → f ≡ hopsAt y
   unfolding hopsAt
   hops-are y f moving m =
       let e = apart-times j s y f (m .place) (m .time) in
-      times-cancel (unit-of j s) f (hopsAt y) (unit-nonzero j s moving) (sym e ∙ quotient (placed j y) (unit-of j s) .1 f e)
+      times-cancel (unit-of j s) f (hopsAt y) (unit-nonzero j s moving) (sym e ∙ quotient (timeAndPlace j y) (unit-of j s) .1 f e)
 
   -- they meet there
-  unfoldable meetsThere : (y : List ℤ) → Decided (Meets j s y (hopsAt y))
+  unfoldable meetsThere : (y : List ℤ) → Decided (CollidesBy j s y (hopsAt y))
   unfolding hopsAt collides timesOf dotOf gcdOf
   meetsThere y =
       let f = hopsAt y in
       alike (λ h. let m = times-apart j s y f (h .0) in record { place = m .0; time = m .1; collide = h .1 }) (λ m. (apart-times j s y f (m .place) (m .time), m .collide))
-      (both (same (placed j y) (timesOf f (unit-of j s))) (collides (stream j s .kind) (along j s) (g j s) y f))
+      (both (same (timeAndPlace j y) (timesOf f (unit-of j s))) (collides (stream j s .kind) (along j s) (g j s) y f))
 
   -- they meet at all
-  unfoldable meets : (Stationary j s → ⊥) → (y : List ℤ) → Decided (MeetsSome j s y)
+  unfoldable meets : (Stationary j s → ⊥) → (y : List ℤ) → Decided (CollidesBySome j s y)
   unfolding meetsThere
-  meets moving y = alike (λ m. (hopsAt y, m)) (λ w. subst (Meets j s y) (hops-are y (w .0) moving (w .1)) (w .1)) (meetsThere y)
+  meets moving y = alike (λ m. (hopsAt y, m)) (λ w. subst (CollidesBy j s y) (hops-are y (w .0) moving (w .1)) (w .1)) (meetsThere y)
 
 -- ---- the search over the differences
 -- four entries as the code holds them
@@ -167,17 +168,17 @@ one-fewer i n c e = (omega arith, omega arith)
 -- the first difference of which P holds
 module _ (P : List ℤ → Type 0) (d : (y : List ℤ) → Decided (P y)) (b : Bounds) (w : Spread (boxOf b) (boxOf (differences b))) where
   -- from place i, with n places left
-  unfoldable walk : (n i : ℕ) → i + n ≡ countOf (boxOf (differences b)) → Passed P (boxOf (differences b)) i → (r : Gap) × Finds-gap P (boxOf b) r
+  unfoldable walk : (n i : ℕ) → i + n ≡ countOf (boxOf (differences b)) → Passed P (boxOf (differences b)) i → (r : FoundGap) × FindsGap P (boxOf b) r
   unfolding vector differences pointOf countOf
-  walk zero i e p = (Gap.Nowhere, gap-nowhere P (boxOf b) (boxOf (differences b)) w i (omega arith) p)
+  walk zero i e p = (FoundGap.Nowhere, gap-nowhere P (boxOf b) (boxOf (differences b)) w i (omega arith) p)
   walk (suc n) i e p =
       let D = boxOf (differences b) in
       let k = one-fewer i n (countOf D) e in
-      cases (d (pointOf D i)) (λ h. (Gap.At (vector (pointOf D i)), gap-found P (boxOf b) D w i (k .0) p (vector (pointOf D i)) refl h))
+      cases (d (pointOf D i)) (λ h. (FoundGap.At (vector (pointOf D i)), gap-found P (boxOf b) D w i (k .0) p (vector (pointOf D i)) refl h))
       (λ h. walk n (i + 1) (k .1) (passed-more P D i p h))
 
   -- from just past 0
-  unfoldable gap-of : (r : Gap) × Finds-gap P (boxOf b) r
+  unfoldable gap-of : (r : FoundGap) × FindsGap P (boxOf b) r
   unfolding walk placeOf
   gap-of =
       let D = boxOf (differences b) in
@@ -190,7 +191,7 @@ unfolding vector startOf plusOf
 pairAt b y = let p = startOf (boxOf b) y in record { p = vector p; q = vector (plusOf p y) }
 
 -- it is the first pair of a property that is one of differences
-pub first-at : {P : List ℤ → List ℤ → Type 0} {Q : List ℤ → Type 0} (b : Bounds) → ByGap P (boxOf b) Q → (y : Vector) → Finds-gap Q (boxOf b) (Gap.At y) → FirstPair P (startOf (boxOf b) (entries y)) (plusOf (startOf (boxOf b) (entries y)) (entries y))
+pub first-at : {P : List ℤ → List ℤ → Type 0} {Q : List ℤ → Type 0} (b : Bounds) → ByGap P (boxOf b) Q → (y : Vector) → FindsGap Q (boxOf b) (FoundGap.At y) → FirstPair P (startOf (boxOf b) (entries y)) (plusOf (startOf (boxOf b) (entries y)) (entries y))
 first-at b by y w =
     let x = entries y in
     let i = start-in (boxOf b) x (apart-in (boxOf b) x (w .1)) in
@@ -198,13 +199,13 @@ first-at b by y w =
 
 -- ---- the cell rule
 -- what a difference that is found, or none, comes to
-unfoldable crowd-at : (j : Job) (r : Gap) → Finds-gap (Still j) (box j) r → (c : Crowd) × Finds-crowd j c
+unfoldable crowd-at : (j : Job) (r : FoundGap) → FindsGap (Still j) (box j) r → (c : FoundPair) × FindsPair j c
 unfolding pairAt
-crowd-at j (Gap.At y) w = (Crowd.At (pairAt (j .bounds) (entries y)), first-at (j .bounds) (cell-by-gap j) y w)
-crowd-at j Gap.Nowhere w = (Crowd.Nowhere, no-pair (cell-by-gap j) w)
+crowd-at j (FoundGap.At y) w = (FoundPair.At (pairAt (j .bounds) (entries y)), first-at (j .bounds) (cell-by-gap j) y w)
+crowd-at j FoundGap.Nowhere w = (FoundPair.Nowhere, no-pair (cell-by-gap j) w)
 
 -- the first pair in one cell at one tick
-unfoldable crowd : (j : Job) → Solid (box j) → (c : Crowd) × Finds-crowd j c
+unfoldable crowd : (j : Job) → Solid (box j) → (c : FoundPair) × FindsPair j c
 unfolding crowd-at gap-of still
 crowd j h = let w = gap-of (Still j) (still j) (j .bounds) (differences-spread (j .bounds) h) in crowd-at j (w .0) (w .1)
 
@@ -212,33 +213,33 @@ crowd j h = let w = gap-of (Still j) (still j) (j .bounds) (differences-spread (
 -- of a moving stream
 module _ (j : Job) (s : ℕ) (moving : Stationary j s → ⊥) where
   -- the first pair meets at the only hops that there are
-  pub first-meeting : (y : Vector) → Finds-gap (MeetsSome j s) (senders j s) (Gap.At y) → Meeting j s (startOf (box j) (entries y)) (plusOf (startOf (box j) (entries y)) (entries y)) (hopsAt j s (entries y))
+  pub first-meeting : (y : Vector) → FindsGap (CollidesBySome j s) (senders j s) (FoundGap.At y) → Collides j s (startOf (box j) (entries y)) (plusOf (startOf (box j) (entries y)) (entries y)) (hopsAt j s (entries y))
   unfolding startOf
   first-meeting y w =
       let x = entries y in
       let p = startOf (box j) x in
-      let m = subst (Meets j s x) (hops-are j s x (w .2 .0) moving (w .2 .1)) (w .2 .1) in
+      let m = subst (CollidesBy j s x) (hops-are j s x (w .2 .0) moving (w .2 .1)) (w .2 .1) in
       meets-meeting j s p (plusOf p x) (hopsAt j s x) moving (first-at (j .bounds) (link-by-gap j s moving) y w .holds .1 .pair)
-      (subst (λ (z : List ℤ). Meets j s z (hopsAt j s x)) (sym (minus-plus p x refl)) m)
+      (subst (λ (z : List ℤ). CollidesBy j s z (hopsAt j s x)) (sym (minus-plus p x refl)) m)
 
   -- what a difference that is found, or none, comes to
-  unfoldable jam-at : (r : Gap) → Finds-gap (MeetsSome j s) (senders j s) r → (c : Jam) × Finds-jam j s c
+  unfoldable jam-at : (r : FoundGap) → FindsGap (CollidesBySome j s) (senders j s) r → (c : FoundCollision) × FindsCollisionOn j s c
   unfolding pairAt hopsAt
-  jam-at (Gap.At y) w =
-      (Jam.At (record { stream = s; pair = pairAt (j .bounds) (entries y); hops = hopsAt j s (entries y) }), (refl, (first-at (j .bounds) (link-by-gap j s moving) y w, first-meeting y w)))
-  jam-at Gap.Nowhere w = (Jam.Nowhere, λ p q f h. no-pair (link-by-gap j s moving) w p q (f, h))
+  jam-at (FoundGap.At y) w =
+      (FoundCollision.At (record { stream = s; pair = pairAt (j .bounds) (entries y); hops = hopsAt j s (entries y) }), (refl, (first-at (j .bounds) (link-by-gap j s moving) y w, first-meeting y w)))
+  jam-at FoundGap.Nowhere w = (FoundCollision.Nowhere, λ p q f h. no-pair (link-by-gap j s moving) w p q (f, h))
 
 -- the first pair of stream s whose tokens meet
-unfoldable jam : (j : Job) → Solid (box j) → (s : ℕ) → (c : Jam) × Finds-jam j s c
+unfoldable jam : (j : Job) → Solid (box j) → (s : ℕ) → (c : FoundCollision) × FindsCollisionOn j s c
 unfolding stationary gap-of meets jam-at
 jam j h s =
-    cases (stationary j s) (λ t. (Jam.Nowhere, λ p q f m. m .moving t))
-    (λ moving. let w = gap-of (MeetsSome j s) (meets j s moving) (j .bounds) (differences-spread (j .bounds) h) in jam-at j s moving (w .0) (w .1))
+    cases (stationary j s) (λ t. (FoundCollision.Nowhere, λ p q f m. m .moving t))
+    (λ moving. let w = gap-of (CollidesBySome j s) (meets j s moving) (j .bounds) (differences-spread (j .bounds) h) in jam-at j s moving (w .0) (w .1))
 
 -- it is decided by the first pair of which some do
-abbrev clear-by : (j : Job) (s : ℕ) (c : Jam) → Finds-jam j s c → Decided (Clear j s)
-clear-by j s (Jam.At c) w = failing (λ n. n (entries (c .pair .p)) (entries (c .pair .q)) (c .hops) (subst (λ (s : ℕ). Meeting j s (entries (c .pair .p)) (entries (c .pair .q)) (c .hops)) (w .0) (w .1 .1)))
-clear-by j s Jam.Nowhere w = holding w
+abbrev clear-by : (j : Job) (s : ℕ) (c : FoundCollision) → FindsCollisionOn j s c → Decided (Clear j s)
+clear-by j s (FoundCollision.At c) w = failing (λ n. n (entries (c .pair .p)) (entries (c .pair .q)) (c .hops) (subst (λ (s : ℕ). Collides j s (entries (c .pair .p)) (entries (c .pair .q)) (c .hops)) (w .0) (w .1 .1)))
+clear-by j s FoundCollision.Nowhere w = holding w
 
 -- searched for
 unfoldable clear : (j : Job) → Solid (box j) → (s : ℕ) → Decided (Clear j s)
@@ -246,24 +247,24 @@ unfolding jam
 clear j h s = let w = jam j h s in clear-by j s (w .0) (w .1)
 
 -- the lowest stream of which some do, with its first pair
-abbrev jam-of : (j : Job) (s : ℕ) → Lowest (Clear j) (j .m) s → (c : Jam) → Finds-jam j s c → (c : Jam) × Finds-jams j c
-jam-of j s l (Jam.At c) w = (Jam.At c, (subst (Lowest (Clear j) (j .m)) (sym (w .0)) l, w .1))
-jam-of j s l Jam.Nowhere w = absurd (l .broken w)
+abbrev collision-on : (j : Job) (s : ℕ) → Lowest (Clear j) (j .m) s → (c : FoundCollision) → FindsCollisionOn j s c → (c : FoundCollision) × FindsCollision j c
+collision-on j s l (FoundCollision.At c) w = (FoundCollision.At c, (subst (Lowest (Clear j) (j .m)) (sym (w .0)) l, w .1))
+collision-on j s l FoundCollision.Nowhere w = absurd (l .broken w)
 
 -- or none
-unfoldable jams-at : (j : Job) → Solid (box j) → (r : Broken) → Finds (Clear j) (j .m) r → (c : Jam) × Finds-jams j c
+unfoldable jams-at : (j : Job) → Solid (box j) → (r : FoundStream) → FindsStream (Clear j) (j .m) r → (c : FoundCollision) × FindsCollision j c
 unfolding jam
-jams-at j h (Broken.At s) l = let w = jam j h s in jam-of j s l (w .0) (w .1)
-jams-at j h Broken.Nowhere w = (Jam.Nowhere, w)
+jams-at j h (FoundStream.At s) l = let w = jam j h s in collision-on j s l (w .0) (w .1)
+jams-at j h FoundStream.Nowhere w = (FoundCollision.Nowhere, w)
 
 -- the same over all streams
-unfoldable jams : (j : Job) → Solid (box j) → (c : Jam) × Finds-jams j c
+unfoldable first-collision : (j : Job) → Solid (box j) → (c : FoundCollision) × FindsCollision j c
 unfolding clear jams-at
-jams j h = let w = lowest-of (Clear j) (clear j h) (j .m) in jams-at j h (w .0) (w .1)
+first-collision j h = let w = lowest-of (Clear j) (clear j h) (j .m) in jams-at j h (w .0) (w .1)
 
 -- ---- the sizes
 -- cells, ticks and room
-unfoldable size : (j : Job) → (z : Size) × Sizes j z
+unfoldable size : (j : Job) → (z : Extent) × ExtentOf j z
 unfolding dotOf timesOf cornerOf leastOf greatestOf countOf gcdOf
 size j = (record { cells = cells j; ticks = ticks j; room = room j }, record { cells = refl; ticks = refl; room = refl })
 
@@ -273,28 +274,28 @@ Answer j = (v : Verdict) × Says j v
 
 module _ (j : Job) where
   -- the link rule, or accepted
-  unfoldable past-cell : Solid (box j) → Keeps j 4 → (c : Jam) → Finds-jams j c → Answer j
+  unfoldable past-cell : Solid (box j) → Keeps j 4 → (c : FoundCollision) → FindsCollision j c → Answer j
   unfolding size
-  past-cell h k (Jam.At c) w = (Link c, record { kept = k; claim = w })
-  past-cell h k Jam.Nowhere w = let z = size j in (Accepted (z .0), record { kept = (k, w); claim = z .1 })
+  past-cell h k (FoundCollision.At c) w = (Link c, record { kept = k; claim = w })
+  past-cell h k FoundCollision.Nowhere w = let z = size j in (Accepted (z .0), record { kept = (k, w); claim = z .1 })
 
   -- the cell rule
-  unfoldable past-hop : Solid (box j) → Keeps j 3 → (c : Crowd) → Finds-crowd j c → Answer j
-  unfolding jams past-cell
-  past-hop h k (Crowd.At c) w = (Cell c, record { kept = k; claim = w })
-  past-hop h k Crowd.Nowhere w = let r = jams j h in past-cell h (k, w) (r .0) (r .1)
+  unfoldable past-hop : Solid (box j) → Keeps j 3 → (c : FoundPair) → FindsPair j c → Answer j
+  unfolding first-collision past-cell
+  past-hop h k (FoundPair.At c) w = (Cell c, record { kept = k; claim = w })
+  past-hop h k FoundPair.Nowhere w = let r = first-collision j h in past-cell h (k, w) (r .0) (r .1)
 
   -- the hop rule
-  unfoldable past-precedence : Solid (box j) → Keeps j 2 → (r : Broken) → Finds (Even j) (j .m) r → Answer j
+  unfoldable past-precedence : Solid (box j) → Keeps j 2 → (r : FoundStream) → FindsStream (Even j) (j .m) r → Answer j
   unfolding crowd past-hop
-  past-precedence h k (Broken.At s) w = (Hop s, record { kept = k; claim = w })
-  past-precedence h k Broken.Nowhere w = let r = crowd j h in past-hop h (k, w) (r .0) (r .1)
+  past-precedence h k (FoundStream.At s) w = (Hop s, record { kept = k; claim = w })
+  past-precedence h k FoundStream.Nowhere w = let r = crowd j h in past-hop h (k, w) (r .0) (r .1)
 
   -- precedence
-  unfoldable past-limits : Solid (box j) → Keeps j 1 → (r : Broken) → Finds (Ahead j) (j .m) r → Answer j
+  unfoldable past-limits : Solid (box j) → Keeps j 1 → (r : FoundStream) → FindsStream (Ahead j) (j .m) r → Answer j
   unfolding even past-precedence
-  past-limits h k (Broken.At s) w = (Precedence s, record { kept = k; claim = w })
-  past-limits h k Broken.Nowhere w = let r = lowest-of (Even j) (even j) (j .m) in past-precedence h (k, w) (r .0) (r .1)
+  past-limits h k (FoundStream.At s) w = (Precedence s, record { kept = k; claim = w })
+  past-limits h k FoundStream.Nowhere w = let r = lowest-of (Even j) (even j) (j .m) in past-precedence h (k, w) (r .0) (r .1)
 
   -- the limits
   unfoldable from-start : (r : ℕ) → First (limits j) r → Answer j

@@ -11,12 +11,12 @@ use lib.IntN.{ℤ, pos, natAbs}
 use lib.Signed.{_≤ℤ_, _<ℤ_, ltZ, leZ, ≤ℤ-refl}
 use Rattle.space.specs.Numbers.{Tells}
 use Rattle.space.specs.Vectors.{Sizes, Sized}
-use Rattle.divisors.specs.Divisors.{GcdOf, gcdOf}
+use Rattle.space.specs.Divisors.{GcdOf, gcdOf}
 use Rattle.space.specs.Order.{Forward}
-use Rattle.boxes.specs.Boxes.{Box, Solid}
+use Rattle.space.specs.Boxes.{Box, Solid}
 use Rattle.space.proofs.Ints.{≤ℤ-antisymm}
 use Rattle.space.proofs.Machine.{never, tells-lt, tells-leZ}
-use Rattle.divisors.proofs.DivisorLaws.{gcd-is, gcd-more, tells-gcd}
+use Rattle.space.proofs.DivisorLaws.{gcd-is, gcd-more, tells-gcd}
 use Rattle.space.proofs.Telling.{tells-as, tells-and, tells-or, tells-not, tells-where, tells-eq, tells-below, tells-le}
 use Rattle.job.specs.Record.{FirstsFrom, OthersFrom}
 use Rattle.job.specs.Refusals.{Checks, done, check, First}

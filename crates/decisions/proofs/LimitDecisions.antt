@@ -2,10 +2,10 @@
 use Prim.Native.Nat.{ℕ, _+_, _≤_}
 use lib.IntN.{ℤ, pos}
 use Rattle.space.specs.declared.Vector.{Vector}
-use Rattle.boxes.specs.declared.Bounds.{Bounds}
+use Rattle.space.specs.declared.boxes.Bounds.{Bounds}
 use Rattle.space.specs.Vectors.{entries}
-use Rattle.divisors.specs.Divisors.{sizesOf}
-use Rattle.boxes.specs.Boxes.{boxOf, countOf}
+use Rattle.space.specs.Divisors.{sizesOf}
+use Rattle.space.specs.Boxes.{boxOf, countOf}
 use Rattle.job.specs.declared.Job.{Job}
 use Rattle.job.specs.declared.Stream.{Stream}
 use Rattle.job.specs.Record.{streamsOf, rowsOf}

@@ -6,14 +6,16 @@ use Prim.Native.Nat.{ℕ, _*_, _<_}
 use native.Mathlib.Omega.{arith}
 use lib.ListN.{length}
 use Rattle.job.specs.declared.Job.{Job}
-use Rattle.verdict.specs.Replies.{Says}
-use Rattle.verdict.specs.declared.Size.{Size}
+use Rattle.verdict.specs.Verdicts.{Says}
+use Rattle.verdict.specs.declared.Extent.{Extent}
 use Rattle.verdict.specs.declared.Verdict.the-variants.{Accepted}
 use Rattle.verdict.proofs.Accepted.{accepted-limits}
-use Rattle.tables.specs.Tables.{points, entryFor}
-use Rattle.loops.specs.Loops.{Looped, incoming as loopIncoming}
-use Rattle.mapping.specs.Frames.{cells, ticks, tickOf, cellOf, held}
-use Rattle.tick.specs.Ticks.{pointAt, incoming as arrayIncoming}
+use Rattle.job.specs.Record.{points}
+use Rattle.tables.specs.Tables.{entryFor}
+use Rattle.array.specs.Loops.{Looped, incoming as loopIncoming}
+use Rattle.verdict.specs.Extents.{cells, ticks}
+use Rattle.frame.specs.Frames.{tickOf, cellOf, inPlace}
+use Rattle.array.specs.Ticks.{pointAt, incoming as arrayIncoming}
 use Rattle.array.specs.Runs.{Ran}
 use Rattle.frame.proofs.FrameLaws.{tick-below, cell-below}
 use Rattle.demand.proofs.Machine.{incoming, taken}
@@ -26,7 +28,7 @@ use Rattle.demand.proofs.Runs.{incoming-is, Chain, chain-of, run-of, ta
 use Rattle.tables.proofs.TableLaws.{tables-same}
 use Rattle.array.proofs.RunLaws.{ran-size}
 
-module _ (j : Job) (z : Size) (says : Says j (Accepted z)) where
+module _ (j : Job) (z : Extent) (says : Says j (Accepted z)) where
   -- what the array leaves in the value table is what the loop leaves there
   pub demand-3 : (input places values places′ values′ looped : List ℕ) → length values ≡ j .m * points j → Ran j input places values (ticks j) places′ values′ → Looped j input looped → values′ ≡ looped
   demand-3 input places values places′ values′ looped size ran loop =
@@ -48,7 +50,7 @@ module _ (j : Job) (z : Size) (says : Says j (Accepted z)) where
       steps : Chain j input (tickOf j k) places′ values′
       steps = chain-of j input places values ran
 
-      there : incoming (machine j input) (tickOf j k) (held j (steps .rooms (tickOf j k))) s (cellOf j k) k ≡ taken (machine j input) (nest j input) (entryFor j looped) s k
+      there : incoming (machine j input) (tickOf j k) (inPlace j (steps .rooms (tickOf j k))) s (cellOf j k) k ≡ taken (machine j input) (nest j input) (entryFor j looped) s k
       there =
           Core.incoming-is-loop (machine j input) (nest j input) (job-mapped j (rules-kept j z says) input) (run-of j input steps) (entryFor j looped) (loop-solves j input looped loop) s k ls (lk, omega arith)
 

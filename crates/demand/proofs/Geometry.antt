@@ -10,19 +10,21 @@ use lib.ListN.{length}
 use lib.IntN.{ℤ, pos, negℤ, natAbs, _+ℤ_, _-ℤ_, _*ℤ_}
 use Rattle.space.specs.Vectors.{entries, plusOf, minusOf, timesOf}
 use Rattle.space.specs.Order.{Before}
-use Rattle.boxes.specs.Boxes.{In, placeOf, pointOf, backOf}
+use Rattle.space.specs.Boxes.{In, placeOf, pointOf, backOf}
 use Rattle.space.proofs.Parts.{int, sum, difference, product, parts, ring⊖, int⊖}
 use Rattle.space.proofs.Ints.{natAbs-neg, natAbs-*}
 use Rattle.space.proofs.VectorLaws.{dot-minus, dot-times, minus-plus, times-length, two}
 use Rattle.space.proofs.OrderLaws.{before-total}
-use Rattle.boxes.proofs.BoxLaws.{in-length, point-in, place-point, point-place, place-injective, steps-back, convex}
-use Rattle.boxes.proofs.BackLaws.{back-some, back-here, back-below}
+use Rattle.space.proofs.BoxLaws.{in-length, point-in, place-point, point-place, place-injective, steps-back, convex}
+use Rattle.space.proofs.BackLaws.{back-some, back-here, back-below}
 use Rattle.job.specs.declared.Job.{Job}
 use Rattle.job.proofs.Accepting.{stream-sound}
-use Rattle.mapping.specs.Mapping.{box, stream, along, H, S, g, Stationary, orOne, hops, hop, delay}
-use Rattle.mapping.proofs.Courses.{stationary-none, hops-moving, place-whole}
-use Rattle.tables.specs.Tables.{points, previous}
-use Rattle.mapping.specs.Frames.{rectangle, clock, tickOf, cellOf, w}
+use Rattle.job.specs.Record.{box, stream, along, points}
+use Rattle.verdict.specs.Mapping.{H, S, g, Stationary, orOne, hops, hop, delay, w}
+use Rattle.verdict.proofs.Courses.{stationary-none, hops-moving, place-whole}
+use Rattle.tables.specs.Tables.{previous}
+use Rattle.verdict.specs.Extents.{rectangle, clock}
+use Rattle.frame.specs.Frames.{tickOf, cellOf}
 use Rattle.frame.proofs.FrameLaws.{between, in-rectangle}
 use Rattle.demand.proofs.Lines.{line-start, line-back, line-behind, minus-back}
 use Rattle.demand.proofs.Obeys.{HopsApart, Obeys}

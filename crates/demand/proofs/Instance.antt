@@ -3,13 +3,13 @@ use mathlib.Core.Path.{_≡_, refl}
 use mathlib.Core.List.{List}
 use mathlib.Core.Option.{none, some}
 use Prim.Native.Nat.{ℕ}
-use Rattle.boxes.proofs.BackLaws.{back-below}
+use Rattle.space.proofs.BackLaws.{back-below}
 use Rattle.job.specs.declared.Job.{Job}
-use Rattle.mapping.specs.Mapping.{hops}
+use Rattle.verdict.specs.Mapping.{hops}
 use Rattle.tables.specs.Tables.{entryFor, previous}
 use Rattle.tables.proofs.TableLaws.{same-work}
-use Rattle.mapping.specs.Frames.{rectangle, cells}
-use Rattle.boxes.specs.Boxes.{given}
+use Rattle.verdict.specs.Extents.{rectangle, cells}
+use Rattle.space.specs.Boxes.{given}
 use Rattle.demand.proofs.Instances.{machine, nest}
 use Rattle.demand.proofs.Mapped.{Mapped}
 use Rattle.demand.proofs.Straight.{Laid, in-cell, LinkRule, mapped}

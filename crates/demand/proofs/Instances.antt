@@ -3,13 +3,15 @@ use mathlib.Core.Bool.{true}
 use mathlib.Core.List.{List}
 use mathlib.Core.Option.{none, some}
 use Prim.Native.Nat.{ℕ, _<_}
-use Rattle.boxes.specs.Boxes.{backOf, given}
+use Rattle.space.specs.Boxes.{backOf, given}
 use Rattle.job.specs.declared.Job.{Job}
-use Rattle.mapping.specs.Mapping.{hop}
-use Rattle.tables.specs.Tables.{points, entryFor, previous}
+use Rattle.verdict.specs.Mapping.{hop, w}
+use Rattle.job.specs.Record.{points}
+use Rattle.tables.specs.Tables.{entryFor, previous}
 use Rattle.cell.specs.Cells.{work}
-use Rattle.mapping.specs.Frames.{rectangle, cells, tickOf, cellOf, w}
-use Rattle.tick.specs.Ticks.{pointAt}
+use Rattle.verdict.specs.Extents.{rectangle, cells}
+use Rattle.frame.specs.Frames.{tickOf, cellOf}
+use Rattle.array.specs.Ticks.{pointAt}
 use Rattle.demand.proofs.Machine.{Machine, Nest}
 
 -- the array of a job: streams, cells and points by their numbers; every point sends, and inputs are fed at the points

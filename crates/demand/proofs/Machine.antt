@@ -4,7 +4,7 @@ use mathlib.Core.Path.{_≡_}
 use mathlib.Core.Bool.{Bool, cond}
 use mathlib.Core.Option.{Option, none, some}
 use Prim.Native.Nat.{ℕ, suc, _%_, _<_}
-use Rattle.boxes.specs.Boxes.{given}
+use Rattle.space.specs.Boxes.{given}
 
 -- what is there, or else b
 abbrev pub else : {A : Type 0} → Option A → A → A

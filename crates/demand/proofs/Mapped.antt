@@ -6,7 +6,7 @@ use Prim.Native.Nat.{ℕ, zero, suc, _+_, _*_, _-_, _≤_, _<_}
 use native.Mathlib.Nat.{add-zero, add-suc}
 use native.Mathlib.Omega.{arith}
 use Rattle.demand.proofs.Machine.{Machine, Nest, Values, incoming, fresh, Run, taken, Solves}
-use Rattle.boxes.specs.Boxes.{given}
+use Rattle.space.specs.Boxes.{given}
 use Rattle.demand.proofs.Ride.{Idle, Way, Linked, ride, ride-on, stored-sent, arrival-fed}
 
 -- where a point's incoming value comes from: it is fed to the point; or fed to a first cell and then rides n hops; or sent by i - d, and rides n + 1 hops

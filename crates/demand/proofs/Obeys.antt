@@ -7,9 +7,10 @@ use lib.Signed.{_≤ℤ_}
 use Rattle.space.specs.Vectors.{minusOf, timesOf}
 use Rattle.job.specs.declared.Job.{Job}
 use Rattle.job.specs.Limits.{Acceptable}
-use Rattle.mapping.specs.Mapping.{box, stream, along, H, S, g, Stationary, hop as e, delay as w}
-use Rattle.mapping.specs.Collisions.{senders}
-use Rattle.verdict.specs.Rules.{Pair}
+use Rattle.job.specs.Record.{box, stream, along}
+use Rattle.verdict.specs.Mapping.{H, S, g, Stationary, hop as e, delay as w}
+use Rattle.verdict.specs.Collisions.{senders}
+use Rattle.verdict.specs.Rules.{Ordered}
 
 -- 'Sd is not 0', and the two kinds of such a stream's tokens
 abbrev pub Moving : Job → ℕ → Type 0
@@ -23,7 +24,7 @@ Local j s = stream j s .kind ≡ 1
 
 -- 'Take points p, q, p before q in box order, y = q - p, and suppose a whole number f has Sy = f·e and Hy = f·w'
 pub record HopsApart (j : Job) (s : ℕ) (p q : List ℤ) (f : ℤ) : Type 0 where
-  pub pair : Pair (senders j s) p q
+  pub pair : Ordered (senders j s) p q
   pub place : S j (minusOf q p) ≡ timesOf f (e j s)
   pub time : H j (minusOf q p) ≡ f *ℤ w j s
 
@@ -35,7 +36,7 @@ pub record Obeys (j : Job) : Type 0 where
   -- 'Hop: if Sd is not 0, g divides Hd'
   pub hop : (s : ℕ) → s < j .m → Moving j s → g j s ∣ natAbs (H j (along j s))
   -- 'Cell: no two different box points have equal H and equal S'
-  pub cell : (p q : List ℤ) → Pair (box j) p q → H j p ≡ H j q → S j p ≡ S j q → ⊥
+  pub cell : (p q : List ℤ) → Ordered (box j) p q → H j p ≡ H j q → S j p ≡ S j q → ⊥
   -- 'Link, only where Sd is not 0'. 'Local: a collision if 1 ≤ |f| ≤ g - 1'
   pub link-local : (s : ℕ) → s < j .m → Local j s → Moving j s → (p q : List ℤ) (f : ℤ) → HopsApart j s p q f → 1 ≤ natAbs f → natAbs f ≤ g j s - 1 → ⊥
   -- 'Through: a collision unless y is a whole multiple of d'

@@ -10,19 +10,20 @@ use Rattle.job.specs.Refusals.{First}
 use Rattle.job.specs.Limits.{Acceptable}
 use Rattle.job.proofs.Refusing.{first-unique}
 use Rattle.reader.specs.Reading.{Reads}
-use Rattle.reader.specs.declared.Reply.the-variants as Read
+use Rattle.reader.specs.declared.Reading.the-variants as Read
 use Rattle.reader.proofs.Theorems.{of-bytes-job}
-use Rattle.tables.specs.Tables.{points, Long}
-use Rattle.loops.proofs.LoopLaws.{tables-taken}
-use Rattle.loops.specs.Loops.{loopChecks, Loops}
-use Rattle.loops.specs.LoopBytes.{LoopsOf}
-use Rattle.loops.specs.declared.Reply.{Reply as Answer}
-use Rattle.loops.specs.declared.Reply.the-variants.{Points, Refused}
+use Rattle.job.specs.Record.{points}
+use Rattle.tables.specs.Tables.{Long}
+use Rattle.array.proofs.LoopLaws.{tables-taken}
+use Rattle.array.specs.Loops.{loopChecks, Loops}
+use Rattle.array.specs.LoopBytes.{LoopsOf}
+use Rattle.array.specs.declared.loops.LoopReply.{LoopReply}
+use Rattle.array.specs.declared.loops.LoopReply.the-variants.{Points, Refused}
 use Rattle.verdict.proofs.Accepted.{accepted-limits}
-use Rattle.answers.proofs.AnswerLaws.{passed}
+use Rattle.checks.proofs.AnswerLaws.{passed}
 use Rattle.array.specs.Runs.{Runs, RepliesOf}
-use Rattle.answers.specs.declared.Reply.{Reply}
-use Rattle.answers.specs.declared.Reply.the-variants as Array
+use Rattle.checks.specs.declared.RunReply.{RunReply}
+use Rattle.checks.specs.declared.RunReply.the-variants as Array
 use Rattle.demand.proofs.Demand.{demand-3}
 
 -- ---- of a record
@@ -41,7 +42,7 @@ module _ (j : Job) (input values places values′ places′ : List ℕ) (n : ℕ
 
   -- A run that answers a tick count leaves in the value table exactly what the loop on the same job and the same input leaves there, whatever stood in the two tables before;
   -- and the loop then answers the point count.
-  pub run-leaves-loop : (before after : List ℕ) (r : Answer) → length before ≡ j .m * points j → Loops j input before after r → (r ≡ Points (points j)) × (values′ ≡ after)
+  pub run-leaves-loop : (before after : List ℕ) (r : LoopReply) → length before ≡ j .m * points j → Loops j input before after r → (r ≡ Points (points j)) × (values′ ≡ after)
   run-leaves-loop before after (Points c) size loop =
       (ap Points (loop .1), demand-3 j (run .0) (run .1 .accepted) input _ values places′ values′ after (sizes .1) (run .3) (loop .2))
   run-leaves-loop before after (Refused c) size loop = absurd (loop .1 (first-unique (loopChecks j input before) c 0 (loop .0) (loop-passes before size)))
@@ -49,13 +50,13 @@ module _ (j : Job) (input values places values′ places′ : List ℕ) (n : ℕ
 -- ---- of bytes
 module _ (s input values places values′ places′ : List ℕ) where
   -- a run of bytes that answers a tick count is the run of the job that they are
-  job-ran : (r : Reply) (n : ℕ) → RepliesOf s (λ (j : Job). Runs j input values places values′ places′ r) ((values′ ≡ values) × (places′ ≡ places)) r → r ≡ Array.Ticks n → (j : Job) × Reads s (Read.Job j) × Runs j input values places values′ places′ (Array.Ticks n)
+  job-ran : (r : RunReply) (n : ℕ) → RepliesOf s (λ (j : Job). Runs j input values places values′ places′ r) ((values′ ≡ values) × (places′ ≡ places)) r → r ≡ Array.Ticks n → (j : Job) × Reads s (Read.Job j) × Runs j input values places values′ places′ (Array.Ticks n)
   job-ran r n (inl refused) e = let refusal = refused .2 in let z : _≡_ {A = ℕ} 0 1 = cc in absurd (omega arith)
   job-ran r n (inr ran) e = (ran .0, ran .1, subst (Runs (ran .0) input values places values′ places′) e (ran .2))
 
   -- A run of job bytes that answers a tick count leaves in the value table exactly what the loop on the same bytes and the same input leaves there, where its value table is as long as the run's, whatever stood in the two before;
   -- the bytes are a job, and the loop answers its point count.
-  pub run-leaves-loop-bytes : (r : Reply) (n : ℕ) → RepliesOf s (λ (j : Job). Runs j input values places values′ places′ r) ((values′ ≡ values) × (places′ ≡ places)) r → r ≡ Array.Ticks n → (before after : List ℕ) (r′ : Answer) → length before ≡ length values → LoopsOf s input before after r′ → (j : Job) × Reads s (Read.Job j) × (r′ ≡ Points (points j)) × (values′ ≡ after)
+  pub run-leaves-loop-bytes : (r : RunReply) (n : ℕ) → RepliesOf s (λ (j : Job). Runs j input values places values′ places′ r) ((values′ ≡ values) × (places′ ≡ places)) r → r ≡ Array.Ticks n → (before after : List ℕ) (r′ : LoopReply) → length before ≡ length values → LoopsOf s input before after r′ → (j : Job) × Reads s (Read.Job j) × (r′ ≡ Points (points j)) × (values′ ≡ after)
   run-leaves-loop-bytes r n ran e before after r′ size loop =
       let h = job-ran r n ran e in
       let j = h .0 in

@@ -5,7 +5,7 @@ use mathlib.Core.Option.{Option, none, some}
 use Prim.Native.Nat.{ℕ, zero, suc, _+_, _*_, _≤_, _<_}
 use native.Mathlib.Omega.{arith}
 use Rattle.demand.proofs.Machine.{Machine, Nest, Places, link, arrival, fresh, stored, Run}
-use Rattle.boxes.specs.Boxes.{given}
+use Rattle.space.specs.Boxes.{given}
 use Rattle.demand.proofs.History.{held}
 
 module _ {S C P D : Type 0} (M : Machine S C P D) where

@@ -9,19 +9,19 @@ use Rattle.space.specs.Vectors.{minusOf}
 use Rattle.space.proofs.Parts.{int, product}
 use Rattle.space.proofs.Ints.{quot-up, dvd-whole}
 use Rattle.job.specs.declared.Job.{Job}
-use Rattle.mapping.specs.Mapping.{stream, along, H, g, orOne, hops, delay}
-use Rattle.mapping.specs.Collisions.{Collide}
-use Rattle.mapping.proofs.Courses.{stationary-none, hops-some}
-use Rattle.verdict.specs.Replies.{Says}
-use Rattle.verdict.specs.declared.Size.{Size}
+use Rattle.job.specs.Record.{stream, along}
+use Rattle.verdict.specs.Mapping.{H, g, orOne, hops, delay, w}
+use Rattle.verdict.specs.Collisions.{IsCollision}
+use Rattle.verdict.proofs.Courses.{stationary-none, hops-some}
+use Rattle.verdict.specs.Verdicts.{Says}
+use Rattle.verdict.specs.declared.Extent.{Extent}
 use Rattle.verdict.specs.declared.Verdict.the-variants.{Accepted}
-use Rattle.mapping.specs.Frames.{w}
-use Rattle.tick.proofs.RoomLaws.{w-positive}
+use Rattle.array.proofs.RoomLaws.{w-positive}
 use Rattle.demand.proofs.Obeys.{Moving, HopsApart, Obeys}
 
-module _ (j : Job) (z : Size) (y : Says j (Accepted z)) where
+module _ (j : Job) (z : Extent) (y : Says j (Accepted z)) where
   -- no two points are f hops apart where f makes that a collision
-  never : (s : ℕ) → s < j .m → Moving j s → (p q : List ℤ) (f : ℤ) → HopsApart j s p q f → Collide (stream j s .kind) (along j s) (g j s) (minusOf q p) f → ⊥
+  never : (s : ℕ) → s < j .m → Moving j s → (p q : List ℤ) (f : ℤ) → HopsApart j s p q f → IsCollision (stream j s .kind) (along j s) (g j s) (minusOf q p) f → ⊥
   never s l moving p q f a c = y .kept .1 s l p q f (record { moving = moving; pair = a .pair; place = a .place; time = a .time; collide = c })
 
   -- an accepted job keeps them all. Each is shown from what it supposes, so that a weaker rule is shown here too, and refused where the theorem needs the stronger

@@ -8,14 +8,16 @@ use native.Mathlib.Decide.{ℕ-discrete}
 use native.Mathlib.Omega.{arith}
 use lib.Dec.{ltb}
 use borrow.Author.Tests.{lt-ltb, le-ltb}
-use Rattle.boxes.specs.Boxes.{backOf, given}
+use Rattle.space.specs.Boxes.{backOf, given}
 use Rattle.job.specs.declared.Job.{Job}
-use Rattle.mapping.specs.Mapping.{hop}
-use Rattle.tables.specs.Tables.{points, entryFor, previous}
+use Rattle.verdict.specs.Mapping.{hop}
+use Rattle.job.specs.Record.{points}
+use Rattle.tables.specs.Tables.{entryFor, previous}
 use Rattle.cell.specs.Cells.{work}
-use Rattle.loops.specs.Loops.{Looped, incoming as loopIncoming}
-use Rattle.mapping.specs.Frames.{rectangle, held}
-use Rattle.tick.specs.Ticks.{pointAt, Ticked as ArrayTicked, arrival as arrayArrival, incoming as arrayIncoming, fresh as arrayFresh, stored as arrayStored}
+use Rattle.array.specs.Loops.{Looped, incoming as loopIncoming}
+use Rattle.verdict.specs.Extents.{rectangle}
+use Rattle.frame.specs.Frames.{inPlace}
+use Rattle.array.specs.Ticks.{pointAt, Ticked as ArrayTicked, arrival as arrayArrival, incoming as arrayIncoming, fresh as arrayFresh, stored as arrayStored}
 use Rattle.array.specs.Runs.{Ran}
 use Rattle.array.specs.Runs.Ran.{ready, ticked}
 use Rattle.demand.proofs.Machine.{link, arrival, incoming, fresh, stored, taken, Ticked, Run, Solves}
@@ -24,39 +26,39 @@ use Rattle.demand.proofs.Instances.{machine, nest}
 module _ (j : Job) (input : List ℕ) where
   -- ---- one tick: what the array's definitions say is what the machine's say, of what the places hold
   -- the arrival
-  arrival-is : (t : ℕ) (places : List ℕ) (s x : ℕ) → arrayArrival j t places s x ≡ arrival (machine j input) t (held j places) s x
+  arrival-is : (t : ℕ) (places : List ℕ) (s x : ℕ) → arrayArrival j t places s x ≡ arrival (machine j input) t (inPlace j places) s x
   unfolding arrayArrival arrival link
   arrival-is t places s x = by (backOf (rectangle j) (hop j s) x) refl
     where
-      by : (o : Option ℕ) → backOf (rectangle j) (hop j s) x ≡ o → arrayArrival j t places s x ≡ arrival (machine j input) t (held j places) s x
+      by : (o : Option ℕ) → backOf (rectangle j) (hop j s) x ≡ o → arrayArrival j t places s x ≡ arrival (machine j input) t (inPlace j places) s x
       by none e = rw e
       by (some y) e = rw e
 
   -- what comes in at a point
-  pub incoming-is : (t : ℕ) (places : List ℕ) (s x k : ℕ) → arrayIncoming j input t places s x k ≡ incoming (machine j input) t (held j places) s x k
+  pub incoming-is : (t : ℕ) (places : List ℕ) (s x k : ℕ) → arrayIncoming j input t places s x k ≡ incoming (machine j input) t (inPlace j places) s x k
   unfolding arrayIncoming incoming
   incoming-is t places s x k = by (previous j s k) refl
     where
-      by : (o : Option ℕ) → previous j s k ≡ o → arrayIncoming j input t places s x k ≡ incoming (machine j input) t (held j places) s x k
+      by : (o : Option ℕ) → previous j s k ≡ o → arrayIncoming j input t places s x k ≡ incoming (machine j input) t (inPlace j places) s x k
       by none e = rw e
       by (some q) e = rw e (arrival-is t places s x)
 
   -- the new value
-  fresh-is : (t : ℕ) (places : List ℕ) (s x k : ℕ) → arrayFresh j input t places s x k ≡ fresh (machine j input) t (held j places) s x k
+  fresh-is : (t : ℕ) (places : List ℕ) (s x k : ℕ) → arrayFresh j input t places s x k ≡ fresh (machine j input) t (inPlace j places) s x k
   unfolding fresh
   fresh-is t places s x k = ap (work j s) (fun-ext (λ u. incoming-is t places u x k))
 
   -- what a cell stores
-  stored-is : (t : ℕ) (places : List ℕ) (s x : ℕ) → arrayStored j input t places s x ≡ stored (machine j input) t (held j places) s x
+  stored-is : (t : ℕ) (places : List ℕ) (s x : ℕ) → arrayStored j input t places s x ≡ stored (machine j input) t (inPlace j places) s x
   unfolding arrayStored stored
   stored-is t places s x = by (pointAt j t x) refl
     where
-      by : (o : Option ℕ) → pointAt j t x ≡ o → arrayStored j input t places s x ≡ stored (machine j input) t (held j places) s x
+      by : (o : Option ℕ) → pointAt j t x ≡ o → arrayStored j input t places s x ≡ stored (machine j input) t (inPlace j places) s x
       by none e = rw e (arrival-is t places s x)
       by (some k) e = rw e (fresh-is t places s x k)
 
   -- so a tick of the array is a tick of the machine
-  pub ticked-is : (t : ℕ) (places values places′ values′ : List ℕ) → ArrayTicked j input t places values places′ values′ → Ticked (machine j input) (nest j input) t (held j places) (entryFor j values) (held j places′) (entryFor j values′)
+  pub ticked-is : (t : ℕ) (places values places′ values′ : List ℕ) → ArrayTicked j input t places values places′ values′ → Ticked (machine j input) (nest j input) t (inPlace j places) (entryFor j values) (inPlace j places′) (entryFor j values′)
   ticked-is t places values places′ values′ h =
       record {
         stores = λ s x ls lx. h .stores s x ls lx ∙ stored-is t places s x;
@@ -113,7 +115,7 @@ module _ (j : Job) (input : List ℕ) where
   run-of {n} c =
       record {
         end = n;
-        places = λ t. held j (c .rooms t);
+        places = λ t. inPlace j (c .rooms t);
         values = λ t. entryFor j (c .tables t);
         ticks = λ t lt. ticked-is t _ _ _ _ (c .each t lt);
       }

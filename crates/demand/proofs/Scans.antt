@@ -7,10 +7,10 @@ use native.Mathlib.Decide.{ℕ-discrete}
 use native.Mathlib.Omega.{arith}
 use Rattle.space.proofs.Telling.{told}
 use Rattle.job.specs.declared.Job.{Job}
-use Rattle.tables.specs.Tables.{points}
-use Rattle.mapping.specs.Frames.{tickOf, cellOf}
-use Rattle.tick.specs.Ticks.{lastOf, works, pointAt}
-use Rattle.tick.proofs.PointLaws.{last-only, works-tells}
+use Rattle.job.specs.Record.{points}
+use Rattle.frame.specs.Frames.{tickOf, cellOf}
+use Rattle.array.specs.Ticks.{lastOf, works, pointAt}
+use Rattle.array.proofs.PointLaws.{last-only, works-tells}
 
 module _ (test : ℕ → Bool) where
   -- the only one that passes is found

@@ -4,23 +4,23 @@ use mathlib.Core.List.{List, [], _∷_, map, tail}
 use Prim.Native.Nat.{ℕ, zero, suc, _<_}
 use native.Mathlib.Omega.{arith}
 use Rattle.space.specs.Vectors.{minusOf}
-use Rattle.boxes.specs.Boxes.{countOf, placeOf, pointOf, backOf}
+use Rattle.space.specs.Boxes.{countOf, placeOf, pointOf, backOf}
 use Rattle.job.specs.declared.Job.{Job}
-use Rattle.verdict.specs.Replies.{Says}
+use Rattle.verdict.specs.Verdicts.{Says}
 use Rattle.verdict.specs.declared.Verdict.{Verdict}
 use Rattle.verdict.specs.declared.Verdict.the-variants.{Accepted}
 use Rattle.decisions.proofs.Answer.{answer}
 use Rattle.tables.specs.Tables.{entryFor}
 use Rattle.cell.specs.Cells.{ruled, work}
-use Rattle.loops.specs.Loops.{incoming}
+use Rattle.array.specs.Loops.{incoming}
 use Rattle.demand.proofs.Demand.{demand-3}
-use Rattle.demand.specs.SmallJobs.{squares, Reply, Line, table, Leaves, Fulfils, Holds, All}
+use Rattle.demand.specs.SmallJobs.{squares, Expected, Line, table, Leaves, Fulfils, Holds, All}
 
 -- ---- the verdicts of all lines
 -- the verdict of a reply
-abbrev verdictOf : Reply → Verdict
-verdictOf (Reply.judged v) = v
-verdictOf (Reply.computes z first values) = Accepted z
+abbrev verdictOf : Expected → Verdict
+verdictOf (Expected.judged v) = v
+verdictOf (Expected.computes z first values) = Accepted z
 
 -- what the definitions come to, worked out for all lines together
 replies : map (λ (l : Line). answer (l .job) .0) table ≡ map (λ (l : Line). verdictOf (l .reply)) table
@@ -41,9 +41,9 @@ squares-leave first x y z ex ey ez rest = record { size = refl; each = at }
     at (suc s) k hs hk = absurd (omega arith)
 
 -- what is to be shown of the loop: nothing for a verdict, and the values for a run; then of the lines that follow
-abbrev With : Job → Reply → Type 0 → Type 0
-With j (Reply.judged v) More = More
-With j (Reply.computes z first values) More = Leaves j first values × More
+abbrev With : Job → Expected → Type 0 → Type 0
+With j (Expected.judged v) More = More
+With j (Expected.computes z first values) More = Leaves j first values × More
 
 abbrev Left : List Line → Type 0
 Left [] = Unit {0}
@@ -55,9 +55,9 @@ left = (squares-leave 1 2 6 42 refl refl refl, (squares-leave 4294967295 0 0 0 r
 
 -- ---- together
 -- a line with its verdict shown, and the loop's values if it is a run, holds: by demand 3 the array leaves the loop's values
-fulfils : (j : Job) (r : Reply) (More : Type 0) → Says j (verdictOf r) → With j r More → Fulfils j r × More
-fulfils j (Reply.judged v) More says left = (says, left)
-fulfils j (Reply.computes z first values) More says left = (
+fulfils : (j : Job) (r : Expected) (More : Type 0) → Says j (verdictOf r) → With j r More → Fulfils j r × More
+fulfils j (Expected.judged v) More says left = (says, left)
+fulfils j (Expected.computes z first values) More says left = (
   (says, left .0, λ rest places before places′ after size ran. demand-3 j z says (first ∷ rest) places before places′ after values size ran (left .0 rest)),
   left .1,
 )

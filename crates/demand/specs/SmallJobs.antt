@@ -7,14 +7,13 @@ use lib.IntN.{ℤ, pos, negsuc}
 use Rattle.space.specs.declared.Vector.{Vector}
 use Rattle.job.specs.declared.Stream.{Stream}
 use Rattle.job.specs.declared.Job.{Job}
-use Rattle.job.specs.Record.{zeroVector, noStream}
-use Rattle.verdict.specs.Replies.{Says}
-use Rattle.verdict.specs.declared.Size.{Size}
+use Rattle.job.specs.Record.{zeroVector, noStream, points}
+use Rattle.verdict.specs.Verdicts.{Says}
+use Rattle.verdict.specs.declared.Extent.{Extent}
 use Rattle.verdict.specs.declared.Verdict.{Verdict}
 use Rattle.verdict.specs.declared.Verdict.the-variants.{Accepted, Precedence, Hop, Cell, Link}
-use Rattle.tables.specs.Tables.{points}
-use Rattle.loops.specs.Loops.{Looped}
-use Rattle.mapping.specs.Frames.{ticks}
+use Rattle.array.specs.Loops.{Looped}
+use Rattle.verdict.specs.Extents.{ticks}
 use Rattle.array.specs.Runs.{Ran}
 
 -- a vector of numbers that are not negative
@@ -43,7 +42,7 @@ three n k high s0 s1 s2 h row0 row1 =
     record { n = n; k = k; m = 3; bounds = record { low = zeroVector; high = high }; s0 = s0; s1 = s1; s2 = s2; s3 = noStream; time = h; row0 = row0; row1 = row1 }
 
 -- the verdicts, with their values
-abbrev pub size : ℕ → ℕ → ℕ → Size
+abbrev pub size : ℕ → ℕ → ℕ → Extent
 size c t r = record { cells = c; ticks = t; room = r }
 
 abbrev pub accepted : ℕ → ℕ → ℕ → Verdict
@@ -56,21 +55,21 @@ abbrev pub link : ℕ → Vector → Vector → ℤ → Verdict
 link s p q f = Link (record { stream = s; pair = record { p = p; q = q }; hops = f })
 
 -- what is expected of a job: a verdict; or, accepted with a size, the values that are left where the input table begins with `first`
-pub data Reply : Type 0 where
-  judged : Verdict → Reply
-  computes : (z : Size) (first : ℕ) (values : List ℕ) → Reply
+pub data Expected : Type 0 where
+  judged : Verdict → Expected
+  computes : (z : Extent) (first : ℕ) (values : List ℕ) → Expected
 
 -- a job and its reply
 pub record Line : Type 0 where
   pub job : Job
-  pub reply : Reply
+  pub reply : Expected
 
 infix 70 _gives_
 abbrev pub _gives_ : Job → Verdict → Line
-j gives v = record { job = j; reply = Reply.judged v }
+j gives v = record { job = j; reply = Expected.judged v }
 
-abbrev pub runs : Job → Size → ℕ → List ℕ → Line
-runs j z first values = record { job = j; reply = Reply.computes z first values }
+abbrev pub runs : Job → Extent → ℕ → List ℕ → Line
+runs j z first values = record { job = j; reply = Expected.computes z first values }
 
 -- 'Box 0..2, d (1), H and S (1), rule 1, sources 0 and 0'
 abbrev pub squares : Job
@@ -118,9 +117,9 @@ RunLeaves j first values =
     (rest places before places′ after : List ℕ) → length before ≡ j .m * points j → Ran j (first ∷ rest) places before (ticks j) places′ after → after ≡ values
 
 -- a line holds: its verdict is the verdict on its job; or its job is accepted with its size, and loop and array leave its values
-abbrev pub Fulfils : Job → Reply → Type 0
-Fulfils j (Reply.judged v) = Says j v
-Fulfils j (Reply.computes z first values) = Says j (Accepted z) × Leaves j first values × RunLeaves j first values
+abbrev pub Fulfils : Job → Expected → Type 0
+Fulfils j (Expected.judged v) = Says j v
+Fulfils j (Expected.computes z first values) = Says j (Accepted z) × Leaves j first values × RunLeaves j first values
 
 abbrev pub Holds : Line → Type 0
 Holds l = Fulfils (l .job) (l .reply)

@@ -8,7 +8,7 @@ use lib.ListN.{length, getD, take, drop}
 use lib.Seq.{drop-cons, take-at}
 use Rattle.space.specs.declared.Vector.{Vector}
 use Rattle.space.specs.Vectors.{entries}
-use Rattle.boxes.specs.Boxes.{boxOf}
+use Rattle.space.specs.Boxes.{boxOf}
 use Rattle.job.specs.declared.Job.{Job}
 use Rattle.layout.specs.Layout.{joined, entryBytes, vectorBytes, boxBytes, sideBytes}
 use Rattle.layout.proofs.Injective.{joined-length}

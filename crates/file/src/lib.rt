@@ -6,7 +6,7 @@ ghost use mathlib.Core.Path.{_≡_};
 ghost use Prim.Native.Nat.{_+_, _*_, _≤_};
 ghost use lib.ListN.{length, take};
 ghost use Rattle.job.specs.Limits.{Acceptable};
-ghost use Rattle.layout.specs.Layout.{Held, headerOf, boxBytes, streamsBytes, matrixBytes, streamBytes, vectorBytes, fileOf};
+ghost use Rattle.layout.specs.Layout.{InBytes, headerOf, boxBytes, streamsBytes, matrixBytes, streamBytes, vectorBytes, fileOf};
 ghost use Rattle.file.specs.Files.{totalFor, over, Puts};
 
 // The job's file at the front: header, box, streams, matrices.
@@ -81,7 +81,7 @@ fn put_matrices(buf: &mut [u8], from: usize, j: Job)
 
 // A stream: d, kind, rule, a, b.
 fn put_stream(buf: &mut [u8], at: usize, n: usize, s: Stream)
-    requires { ⌜ (n ≤ 4) × Held (s .d) × (at + (n + 4) ≤ length (now buf)) ⌝ }
+    requires { ⌜ (n ≤ 4) × InBytes (s .d) × (at + (n + 4) ≤ length (now buf)) ⌝ }
     ensures { λ _. ⌜ Puts at (streamBytes 1 n s) (now (buf .entry)) (now (buf .exit)) ⌝ }
 {
     let d = s.d;
@@ -92,7 +92,7 @@ fn put_stream(buf: &mut [u8], at: usize, n: usize, s: Stream)
 
 // The first n entries of a vector.
 fn put_vector(buf: &mut [u8], at: usize, n: usize, v: Vector)
-    requires { ⌜ (n ≤ 4) × Held v × (at + n ≤ length (now buf)) ⌝ }
+    requires { ⌜ (n ≤ 4) × InBytes v × (at + n ≤ length (now buf)) ⌝ }
     ensures { λ _. ⌜ Puts at (vectorBytes 1 n v) (now (buf .entry)) (now (buf .exit)) ⌝ }
 {
     let bytes = vector_bytes(v);
@@ -101,7 +101,7 @@ fn put_vector(buf: &mut [u8], at: usize, n: usize, v: Vector)
 
 // The bytes of all four entries.
 fn vector_bytes(v: Vector) -> [u8; 4]
-    requires { ⌜ Held v ⌝ }
+    requires { ⌜ InBytes v ⌝ }
     ensures { λ r. ⌜ r ≡ vectorBytes 1 4 v ⌝ }
 {
     [

@@ -12,20 +12,21 @@ use lib.Signed.{_≤ℤ_}
 use borrow.Author.Count.{below-more}
 use Rattle.space.specs.Numbers.{Size, limit, entry, coordinate, steps}
 use Rattle.space.specs.Vectors.{entries, dotOf, Sized}
-use Rattle.boxes.specs.Boxes.{In, Solid, across, countOf, placeOf, pointOf, leastOf, greatestOf, Least, Greatest, reach}
+use Rattle.space.specs.Boxes.{In, Solid, across, countOf, placeOf, pointOf, leastOf, greatestOf, Least, Greatest, reach}
 use Rattle.space.proofs.Ints.{size-up}
 use Rattle.space.proofs.Machine.{held, held-as}
-use Rattle.boxes.proofs.BoxLaws.{in-solid, solid-in, point-in, place-below, steps-below}
-use Rattle.boxes.proofs.ExtremeLaws.{least-is, greatest-is}
+use Rattle.space.proofs.BoxLaws.{in-solid, solid-in, point-in, place-below, steps-below}
+use Rattle.space.proofs.ExtremeLaws.{least-is, greatest-is}
 use Rattle.space.proofs.VectorLaws.{sized-up, dot-size}
 use Rattle.job.specs.declared.Job.{Job}
 use Rattle.job.specs.Limits.{Acceptable}
-use Rattle.mapping.specs.Mapping.{box, H, S}
+use Rattle.job.specs.Record.{box, points}
+use Rattle.verdict.specs.Mapping.{H, S}
 use Rattle.job.proofs.Accepting.{solid, row0-sized, row1-sized, in-box-sized}
 use Rattle.verdict.proofs.SizeLaws.{cells-are, across-small}
-use Rattle.tables.specs.Tables.{points}
 use Rattle.frame.specs.Framing.{Timed}
-use Rattle.mapping.specs.Frames.{rectangle, cells, clock, ticks, tickOf, cellOf}
+use Rattle.verdict.specs.Extents.{rectangle, cells, clock, ticks}
+use Rattle.frame.specs.Frames.{tickOf, cellOf}
 
 -- a small number that is read back fits where the code steps from one to the other
 pub fits-limit : {z v : ℤ} → v ≡ z → Size 8376324 z → Size limit (held v)

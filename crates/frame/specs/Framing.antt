@@ -4,13 +4,14 @@ use mathlib.Core.List.{List, [], _∷_}
 use Prim.Native.Nat.{ℕ, _<_, _≤_}
 use lib.ListN.{length, getD}
 use Rattle.space.specs.Vectors.{entries}
-use Rattle.boxes.specs.Boxes.{across, leastOf, reach}
+use Rattle.space.specs.Boxes.{across, leastOf, reach}
 use Rattle.job.specs.declared.Job.{Job}
-use Rattle.mapping.specs.Mapping.{box, hop}
+use Rattle.job.specs.Record.{box, points}
+use Rattle.verdict.specs.Mapping.{hop, w}
 use Rattle.bands.specs.Bands.{rectangleOf, hopOf}
 use Rattle.bands.specs.declared.Band.{Band}
-use Rattle.tables.specs.Tables.{points}
-use Rattle.mapping.specs.Frames.{rectangle, cells, clock, ticks, tickOf, w}
+use Rattle.verdict.specs.Extents.{rectangle, cells, clock, ticks}
+use Rattle.frame.specs.Frames.{tickOf}
 use Rattle.frame.specs.declared.Frame.{Frame}
 use Rattle.frame.specs.declared.Bands.{Bands}
 

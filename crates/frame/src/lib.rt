@@ -1,18 +1,18 @@
 // The numbers of a job's array, worked out once: the rectangle of cells, the clock's start, the streams' bands; and the tick and the cell of a point.
 use bands::Band;
-use boxes::Reach;
 use job::Job;
 use space::Vector;
+use space::boxes::Reach;
 ghost use mathlib.Core.Path.{_≡_};
 ghost use Prim.Native.Nat.{ℕ, _<_, _≤_};
 ghost use lib.ListN.{length, getD};
 ghost use Rattle.space.specs.Numbers.{entry};
 ghost use Rattle.space.specs.Vectors.{entries};
-ghost use Rattle.boxes.specs.Boxes.{pointOf, Reaches};
+ghost use Rattle.space.specs.Boxes.{pointOf, Reaches};
 ghost use Rattle.job.specs.Limits.{Acceptable};
-ghost use Rattle.mapping.specs.Mapping.{box};
-ghost use Rattle.tables.specs.Tables.{points as pointsOf};
-ghost use Rattle.mapping.specs.Frames.{tickOf, cellOf, cells};
+ghost use Rattle.job.specs.Record.{box, points as pointsOf};
+ghost use Rattle.verdict.specs.Extents.{cells};
+ghost use Rattle.frame.specs.Frames.{tickOf, cellOf};
 ghost use Rattle.verdict.specs.Rules.{Ahead, All};
 ghost use Rattle.frame.specs.Framing.{Framed, Banded, bandAt, AllBanded, Timed};
 
@@ -40,11 +40,11 @@ pub fn frame_of(j: Job) -> Frame
     ensures { λ r. ⌜ Framed j r ⌝ }
 {
     let b = j.bounds;
-    let first = boxes::reach_of(j.row0, b);
-    let second = boxes::reach_of(j.row1, b);
-    let clock = boxes::reach_of(j.time, b);
+    let first = space::boxes::reach_of(j.row0, b);
+    let second = space::boxes::reach_of(j.row1, b);
+    let clock = space::boxes::reach_of(j.time, b);
     Frame {
-        points: boxes::count(b),
+        points: space::boxes::count(b),
         start: clock.low,
         low0: first.low,
         low1: second.low,
@@ -60,7 +60,7 @@ pub fn tick_at(j: Job, f: Frame, p: Vector, k: u64) -> u64
     ensures { λ r. ⌜ r ≡ tickOf j k ⌝ }
 {
     let h = j.time;
-    boxes::steps_above(f.start, space::dot(h, p))
+    space::boxes::steps_above(f.start, space::dot(h, p))
 }
 
 // The cell of p, the point at place k.
@@ -69,9 +69,9 @@ pub fn cell_at(j: Job, f: Frame, p: Vector, k: u64) -> u64
     ensures is { λ r. ⌜ r ≡ cellOf j k ⌝ }
     ensures inside { λ r. ⌜ r < cells j ⌝ }
 {
-    let v = mapping::course::placed(j, p);
-    let row = boxes::steps_above(f.low0, v.x1);
-    row * f.columns + boxes::steps_above(f.low1, v.x2)
+    let v = verdict::course::time_and_place(j, p);
+    let row = space::boxes::steps_above(f.low0, v.x1);
+    row * f.columns + space::boxes::steps_above(f.low1, v.x2)
 }
 
 // As many entries as a job may have points.
@@ -86,12 +86,12 @@ pub fn fill_timetable(j: Job, f: Frame, timetable: &mut [u64])
 {
     let points = f.points;
     let b = j.bounds;
-    let mut p = boxes::point(b, 0);
+    let mut p = space::boxes::point(b, 0);
     let mut k: u64 = 0;
     while k < points {
         let i = k as usize;
         timetable[i] = tick_at(j, f, p, k);
-        p = boxes::next(b, p);
+        p = space::boxes::next(b, p);
         k += 1;
     }
 }
@@ -137,7 +137,7 @@ fn band_of(j: Job, rows: Reach, columns: Reach, s: u8) -> Band
     requires { ⌜ Acceptable j × All Ahead j × Reaches (entries (j .row0)) (box j) rows × Reaches (entries (j .row1)) (box j) columns × (s < j .m) ⌝ }
     ensures { λ r. ⌜ Banded j s r ⌝ }
 {
-    let c = mapping::course::course_of(j, s);
+    let c = verdict::course::course_of(j, s);
     let unit = c.unit;
     Band {
         low0: rows.low,
@@ -146,6 +146,6 @@ fn band_of(j: Job, rows: Reach, columns: Reach, s: u8) -> Band
         high1: columns.high,
         hop0: unit.x1,
         hop1: unit.x2,
-        w: divisors::divisor::size(unit.x0),
+        w: space::divisor::size(unit.x0),
     }
 }

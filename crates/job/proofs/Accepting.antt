@@ -10,8 +10,8 @@ use Rattle.space.specs.declared.Vector.{Vector}
 use Rattle.space.specs.Numbers.{Size, coordinate, difference}
 use Rattle.space.specs.Vectors.{entries, Sized}
 use Rattle.space.proofs.VectorLaws.{sized-up}
-use Rattle.boxes.specs.Boxes.{Solid, boxOf, In}
-use Rattle.boxes.proofs.BoxLaws.{inside-sized}
+use Rattle.space.specs.Boxes.{Solid, boxOf, In}
+use Rattle.space.proofs.BoxLaws.{inside-sized}
 use Rattle.job.specs.declared.Job.{Job}
 use Rattle.job.specs.Record.{FirstsFrom, streamsOf, rowsOf, noStream, zeroVector}
 use Rattle.job.specs.Limits.{Acceptable, Unused, Sound, rowLimit}

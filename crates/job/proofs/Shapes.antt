@@ -8,7 +8,7 @@ use Rattle.space.specs.Numbers.{Tells}
 use Rattle.space.specs.Vectors.{entries, Sized}
 use Rattle.space.specs.Order.{Forward}
 use Rattle.space.proofs.Telling.{tells-as, tells-le, told}
-use Rattle.divisors.specs.Divisors.{GcdOf, sizesOf}
+use Rattle.space.specs.Divisors.{GcdOf, sizesOf}
 use Rattle.job.specs.declared.Stream.{Stream}
 use Rattle.job.specs.declared.Job.{Job}
 use Rattle.job.specs.Record.{Firsts, Others, streamsOf, rowsOf}

@@ -4,11 +4,11 @@ use mathlib.Core.Logic.{_⊎_}
 use Prim.Native.Nat.{ℕ, _+_, _<_, _≤_}
 use lib.IntN.{ℤ, pos}
 use Rattle.space.specs.declared.Vector.{Vector}
-use Rattle.boxes.specs.declared.Bounds.{Bounds}
+use Rattle.space.specs.declared.boxes.Bounds.{Bounds}
 use Rattle.space.specs.Vectors.{entries, Sized}
-use Rattle.divisors.specs.Divisors.{GcdOf, sizesOf}
+use Rattle.space.specs.Divisors.{GcdOf, sizesOf}
 use Rattle.space.specs.Order.{Forward}
-use Rattle.boxes.specs.Boxes.{Solid, boxOf, countOf}
+use Rattle.space.specs.Boxes.{Solid, boxOf, countOf}
 use Rattle.job.specs.declared.Stream.{Stream}
 use Rattle.job.specs.declared.Job.{Job}
 use Rattle.job.specs.Refusals.{Checks, done, check}

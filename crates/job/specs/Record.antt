@@ -1,8 +1,11 @@
--- 'A job held as a record': its streams and rows as lists.
+-- 'A job held as a record': its box and points, its streams and rows as lists.
 use mathlib.Core.List.{List, [], _∷_}
 use Prim.Native.Nat.{ℕ, suc, _<_, _≤_}
-use lib.IntN.{pos}
+use lib.ListN.{getD}
+use lib.IntN.{ℤ, pos}
 use Rattle.space.specs.declared.Vector.{Vector}
+use Rattle.space.specs.Vectors.{entries}
+use Rattle.space.specs.Boxes.{Box, boxOf, countOf}
 use Rattle.job.specs.declared.Stream.{Stream}
 use Rattle.job.specs.declared.Job.{Job}
 
@@ -14,6 +17,20 @@ noStream = record { d = zeroVector; kind = 0; rule = 0; a = 0; b = 0 }
 
 abbrev pub streamsOf : Job → List Stream
 streamsOf j = j .s0 ∷ j .s1 ∷ j .s2 ∷ j .s3 ∷ []
+
+-- the box, and how many points it has
+abbrev pub box : Job → Box
+box j = boxOf (j .bounds)
+
+abbrev pub points : Job → ℕ
+points j = countOf (box j)
+
+-- stream s, and its vector d
+abbrev pub stream : Job → ℕ → Stream
+stream j s = getD (streamsOf j) s noStream
+
+abbrev pub along : Job → ℕ → List ℤ
+along j s = entries (stream j s .d)
 
 -- H, then the rows of S
 abbrev pub rowsOf : Job → List Vector

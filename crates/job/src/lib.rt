@@ -1,8 +1,9 @@
 // The job as a record, and whether a record has its shape.
+pub mod limits;
 pub mod shape;
 
-use boxes::Bounds;
 use space::Vector;
+use space::boxes::Bounds;
 ghost use mathlib.Core.Path.{_≡_};
 ghost use Prim.Native.Nat.{_<_};
 ghost use lib.ListN.{getD};

@@ -8,7 +8,7 @@ use Rattle.space.specs.declared.Vector.{Vector}
 use Rattle.space.specs.Numbers.{Size}
 use Rattle.space.specs.Vectors.{entries, Sized}
 use Rattle.space.proofs.Parts.{int, sum, difference, magnitude}
-use Rattle.layout.specs.Layout.{complement, InByte, Held}
+use Rattle.layout.specs.Layout.{complement, InByte, InBytes}
 
 pub in-size : {z : ℤ} → InByte z → Size 128 z
 in-size {z} h = record { size = omega (int, magnitude z) }
@@ -18,7 +18,7 @@ size-held : {b : ℕ} {z : ℤ} → b ≤ 127 → Size b z → InByte z
 size-held {z = z} h p = record { low = omega (int, magnitude z, p .size); high = omega (int, magnitude z, p .size) }
 
 -- a vector of such entries
-pub sized-held : {b : ℕ} {v : Vector} → b ≤ 127 → Sized b (entries v) → Held v
+pub sized-held : {b : ℕ} {v : Vector} → b ≤ 127 → Sized b (entries v) → InBytes v
 sized-held h p = record { x0 = size-held h (p .each .0); x1 = size-held h (p .each .1 .0); x2 = size-held h (p .each .1 .1 .0); x3 = size-held h (p .each .1 .1 .1 .0) }
 
 pub below-256 : (z : ℤ) → InByte z → complement 1 z < 256

@@ -9,15 +9,15 @@ use lib.ListN.{length, getD, take, drop, length-append}
 use lib.Seq.{take-at, drop-at}
 use lib.IntN.{ℤ, pos}
 use Rattle.space.specs.declared.Vector.{Vector}
-use Rattle.boxes.specs.declared.Bounds.{Bounds}
+use Rattle.space.specs.declared.boxes.Bounds.{Bounds}
 use Rattle.space.specs.Vectors.{entries}
-use Rattle.boxes.specs.Boxes.{Side, boxOf}
+use Rattle.space.specs.Boxes.{Side, boxOf}
 use Rattle.space.proofs.VectorLaws.{unfour, vector-same}
 use Rattle.job.specs.declared.Stream.{Stream}
 use Rattle.job.specs.declared.Job.{Job}
 use Rattle.job.specs.Record.{streamsOf, rowsOf, FirstsFrom, OthersFrom, Firsts, Others}
 use Rattle.job.specs.Limits.{Shaped, Unused, Idle}
-use Rattle.layout.specs.Layout.{joined, entryBytes, vectorBytes, streamBytes, totalOf, headerOf, boxBytes, streamsBytes, matrixBytes, fileOf, InByte, Held, Lays, sideBytes}
+use Rattle.layout.specs.Layout.{joined, entryBytes, vectorBytes, streamBytes, totalOf, headerOf, boxBytes, streamsBytes, matrixBytes, fileOf, InByte, InBytes, Lays, sideBytes}
 use Rattle.layout.proofs.Entries.{below-256, byte-injective}
 
 -- ---- lengths
@@ -112,11 +112,11 @@ entry-used z w h k e =
     byte-injective z w h k (sym (mod-eq-of-lt (below-256 z h)) ∙ (ap (λ (l : List ℕ). getD l 0 0) e ∙ mod-eq-of-lt (below-256 w k)))
 
 -- every entry of the vector fits a byte
-held-entries : (n : ℕ) (v : Vector) → Held v → Firsts InByte n (entries v)
+held-entries : (n : ℕ) (v : Vector) → InBytes v → Firsts InByte n (entries v)
 held-entries n v h = ((λ i. h .x0), ((λ i. h .x1), ((λ i. h .x2), ((λ i. h .x3), tt))))
 
 -- a vector is told by its bytes
-vector-unique : (n : ℕ) (v v′ : Vector) → Held v → Held v′ → Unused n v → Unused n v′ → vectorBytes 1 n v ≡ vectorBytes 1 n v′ → v ≡ v′
+vector-unique : (n : ℕ) (v v′ : Vector) → InBytes v → InBytes v′ → Unused n v → Unused n v′ → vectorBytes 1 n v ≡ vectorBytes 1 n v′ → v ≡ v′
 vector-unique n v v′ h h′ u u′ e =
     let r =
     unfour
@@ -132,7 +132,7 @@ empty-unique v v′ u u′ =
 
 -- what a used vector keeps
 abbrev HeldVector : ℕ → Vector → Type 0
-HeldVector n v = Held v × Unused n v
+HeldVector n v = InBytes v × Unused n v
 
 -- a used vector is told by its bytes
 vector-used : (n : ℕ) (v v′ : Vector) → HeldVector n v → HeldVector n v′ → vectorBytes 1 n v ≡ vectorBytes 1 n v′ → v ≡ v′
@@ -162,7 +162,7 @@ side-unused : (s t : Side) → EmptySide s → EmptySide t → s ≡ t
 side-unused s t h k = side-same (h .0 ∙ sym (k .0)) (h .1 ∙ sym (k .1))
 
 -- every side of a box whose bounds fit bytes
-held-sides : (n : ℕ) (b : Bounds) → Held (b .low) → Held (b .high) → Firsts HeldSide n (boxOf b)
+held-sides : (n : ℕ) (b : Bounds) → InBytes (b .low) → InBytes (b .high) → Firsts HeldSide n (boxOf b)
 held-sides n b h k = ((λ i. (h .x0, k .x0)), ((λ i. (h .x1, k .x1)), ((λ i. (h .x2, k .x2)), ((λ i. (h .x3, k .x3)), tt))))
 
 -- the sides from n on

@@ -6,7 +6,7 @@ use lib.IntN.{ℤ, pos, negsuc}
 use lib.Signed.{_≤ℤ_}
 use Rattle.space.specs.declared.Vector.{Vector}
 use Rattle.space.specs.Vectors.{entries}
-use Rattle.boxes.specs.Boxes.{Side, boxOf}
+use Rattle.space.specs.Boxes.{Side, boxOf}
 use Rattle.job.specs.declared.Stream.{Stream}
 use Rattle.job.specs.declared.Job.{Job}
 use Rattle.job.specs.Record.{streamsOf, rowsOf}
@@ -79,7 +79,7 @@ pub record InByte (z : ℤ) : Type 0 where
   pub high : z ≤ℤ pos 127
 
 -- a vector whose entries signed bytes can hold
-pub record Held (v : Vector) : Type 0 where
+pub record InBytes (v : Vector) : Type 0 where
   pub x0 : InByte (v .x0)
   pub x1 : InByte (v .x1)
   pub x2 : InByte (v .x2)
@@ -88,8 +88,8 @@ pub record Held (v : Vector) : Type 0 where
 -- s is the file of the record j, which may still break refusals 6 to 8
 pub record Lays (j : Job) (s : List ℕ) : Type 0 where
   pub shaped : Shaped j
-  pub low : Held (j .bounds .low)
-  pub high : Held (j .bounds .high)
-  pub streams : (Held (j .s0 .d) × Held (j .s1 .d)) × (Held (j .s2 .d) × Held (j .s3 .d))
-  pub rows : Held (j .time) × (Held (j .row0) × Held (j .row1))
+  pub low : InBytes (j .bounds .low)
+  pub high : InBytes (j .bounds .high)
+  pub streams : (InBytes (j .s0 .d) × InBytes (j .s1 .d)) × (InBytes (j .s2 .d) × InBytes (j .s3 .d))
+  pub rows : InBytes (j .time) × (InBytes (j .row0) × InBytes (j .row1))
   pub file : fileOf j ≡ s

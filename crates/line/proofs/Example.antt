@@ -8,14 +8,14 @@ use Rattle.job.specs.declared.Job.{Job}
 use Rattle.job.specs.Record.{zeroVector, noStream}
 use Rattle.layout.specs.Layout.{fileOf}
 use Rattle.reader.specs.Reading.{Reads}
-use Rattle.reader.specs.declared.Reply.the-variants as Reply
-use Rattle.verdict.specs.Replies.{Says}
+use Rattle.reader.specs.declared.Reading.the-variants as Reading
+use Rattle.verdict.specs.Verdicts.{Says}
 use Rattle.verdict.specs.declared.Verdict.{Verdict}
 use Rattle.verdict.specs.declared.Verdict.the-variants.{Accepted, Link}
 use Rattle.decisions.proofs.Answer.{answer}
 use Rattle.print.specs.Decimal.{digits, decimal}
 use Rattle.print.specs.Words.{wordBytes}
-use Rattle.fields.specs.Fields.{fieldsBytes, coordinates, pairFields, lineFields}
+use Rattle.line.specs.Fields.{fieldsBytes, coordinates, pairFields, lineFields}
 use Rattle.line.specs.Lines.{lineOf}
 use Rattle.line.specs.Bytes.{Prints}
 use Rattle.line.proofs.Printing.{prints-job}
@@ -52,7 +52,7 @@ says : Says job verdict
 unfolding answer
 says = answer job .1
 
-reads : Reads bytes (Reply.Job job)
+reads : Reads bytes (Reading.Job job)
 unfolding fileOf
 reads = (says .kept .0 .0 .0 .1, refl)
 

@@ -1,3 +1,5 @@
 pub mod Whole
 pub mod Printing
 pub mod Example
+pub mod Rows
+pub mod Coordinates

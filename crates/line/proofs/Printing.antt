@@ -8,44 +8,44 @@ use native.Mathlib.Omega.{arith}
 use lib.ListN.{length}
 use Rattle.job.specs.declared.Job.{Job}
 use Rattle.reader.specs.Reading.{Reads}
-use Rattle.reader.specs.declared.Reply.the-variants as Reply
+use Rattle.reader.specs.declared.Reading.the-variants as Reading
 use Rattle.reader.proofs.Theorems.{reads-unique}
-use Rattle.verdict.specs.Replies.{Says}
+use Rattle.verdict.specs.Verdicts.{Says}
 use Rattle.replies.specs.Bytes.{SaysOf}
 use Rattle.verdict.specs.declared.Verdict.{Verdict}
 use Rattle.verdict.specs.declared.Verdict.the-variants.{Limit}
 use Rattle.replies.proofs.Unique.{says-of-unique}
-use Rattle.fields.specs.Fields.{lineFields}
+use Rattle.line.specs.Fields.{lineFields}
 use Rattle.line.specs.Lines.{lineOf, longest, Writes}
 use Rattle.line.specs.Bytes.{Prints, WritesOf}
 
 -- the line of bytes that are refused, and of bytes that are a job
-pub prints-refused : (s : List ℕ) (r : ℕ) → Reads s (Reply.Refused r) → Prints s (lineOf 0 (Limit r))
+pub prints-refused : (s : List ℕ) (r : ℕ) → Reads s (Reading.Refused r) → Prints s (lineOf 0 (Limit r))
 prints-refused s r p = record {
   verdict = Limit r;
   says = inl (r, p, refl);
   n = 0;
-  dimensions = λ j q. absurd (clash (reads-unique s (Reply.Refused r) (Reply.Job j) p q));
+  dimensions = λ j q. absurd (clash (reads-unique s (Reading.Refused r) (Reading.Job j) p q));
   line = refl;
 }
   where
-    clash : {j : Job} → Reply.Refused r ≡ Reply.Job j → ⊥
+    clash : {j : Job} → Reading.Refused r ≡ Reading.Job j → ⊥
     clash e = let z : _≡_ {A = ℕ} 0 1 = cc in omega arith
 
-pub prints-job : (s : List ℕ) (j : Job) (v : Verdict) → Reads s (Reply.Job j) → Says j v → Prints s (lineOf (j .n) v)
+pub prints-job : (s : List ℕ) (j : Job) (v : Verdict) → Reads s (Reading.Job j) → Says j v → Prints s (lineOf (j .n) v)
 prints-job s j v p w = record {
   verdict = v;
   says = inr (j, p, w);
   n = j .n;
-  dimensions = λ i q. same (reads-unique s (Reply.Job j) (Reply.Job i) p q);
+  dimensions = λ i q. same (reads-unique s (Reading.Job j) (Reading.Job i) p q);
   line = refl;
 }
   where
-    same : {i : Job} → Reply.Job j ≡ Reply.Job i → j .n ≡ i .n
+    same : {i : Job} → Reading.Job j ≡ Reading.Job i → j .n ≡ i .n
     same e = cc
 
 -- the number of coordinates is the job's, or none are shown
-same-line : (s : List ℕ) (v : Verdict) (n m : ℕ) → SaysOf s v → ((j : Job) → Reads s (Reply.Job j) → n ≡ j .n) → ((j : Job) → Reads s (Reply.Job j) → m ≡ j .n) → lineOf n v ≡ lineOf m v
+same-line : (s : List ℕ) (v : Verdict) (n m : ℕ) → SaysOf s v → ((j : Job) → Reads s (Reading.Job j) → n ≡ j .n) → ((j : Job) → Reads s (Reading.Job j) → m ≡ j .n) → lineOf n v ≡ lineOf m v
 unfolding lineFields lineOf
 same-line s v n m (inl p) f g = ap (lineOf n) (p .2) ∙ sym (ap (lineOf m) (p .2))
 same-line s v n m (inr p) f g = ap (λ (k : ℕ). lineOf k v) (f (p .0) (p .1) ∙ sym (g (p .0) (p .1)))

@@ -13,7 +13,7 @@ use Rattle.verdict.specs.declared.Verdict.the-variants.{Accepted, Limit, Preced
 use Rattle.print.specs.Put.{putAt, Fits, Put}
 use Rattle.print.specs.Decimal.{decimal}
 use Rattle.print.specs.Words.{wordBytes}
-use Rattle.fields.specs.Fields.{Field, field, fieldsBytes, coordinates, pairFields, lineFields}
+use Rattle.line.specs.Fields.{Field, field, fieldsBytes, coordinates, pairFields, lineFields}
 use Rattle.line.specs.Lines.{lineOf, longest, Writes}
 use Rattle.print.specs.declared.words.Word.{Word}
 use Rattle.print.specs.declared.words.Word.the-variants as Word

@@ -4,7 +4,7 @@ use mathlib.Core.List.{List}
 use Prim.Native.Nat.{ℕ}
 use Rattle.job.specs.declared.Job.{Job}
 use Rattle.reader.specs.Reading.{Reads}
-use Rattle.reader.specs.declared.Reply.the-variants as Reply
+use Rattle.reader.specs.declared.Reading.the-variants as Reading
 use Rattle.replies.specs.Bytes.{SaysOf}
 use Rattle.verdict.specs.declared.Verdict.{Verdict}
 use Rattle.line.specs.Lines.{lineOf, Writes}
@@ -14,7 +14,7 @@ pub record Prints (s l : List ℕ) : Type 0 where
   pub verdict : Verdict
   pub says : SaysOf s verdict
   pub n : ℕ
-  pub dimensions : (j : Job) → Reads s (Reply.Job j) → n ≡ j .n
+  pub dimensions : (j : Job) → Reads s (Reading.Job j) → n ≡ j .n
   pub line : l ≡ lineOf n verdict
 
 -- it is written to the front of the buffer b

@@ -6,7 +6,7 @@ use lib.ListN.{length, drop}
 use Rattle.verdict.specs.declared.Verdict.{Verdict}
 use Rattle.print.specs.Words.{wordBytes}
 use Rattle.print.specs.declared.words.Word.the-variants as Word
-use Rattle.fields.specs.Fields.{fieldsBytes, lineFields}
+use Rattle.line.specs.Fields.{fieldsBytes, lineFields}
 
 -- 'one line closed by a newline'
 unfoldable pub lineOf : ℕ → Verdict → List ℕ

@@ -1,6 +1,8 @@
 // The printed line of a verdict, made in a lent buffer by a line writer that holds it.
+pub mod fields;
+
 use print::words::Word;
-use reader::Reply;
+use reader::Reading;
 use verdict::Verdict;
 ghost use Prim.Native.Nat.{_≤_};
 ghost use lib.ListN.{length};
@@ -18,7 +20,7 @@ pub fn write_line(out: &mut [u8], n: u8, v: Verdict) -> usize
     if out.len() < LONGEST {
         return 0;
     }
-    let i = fields::put_fields(out, 0, n, v);
+    let i = crate::fields::put_fields(out, 0, n, v);
     print::held::put_close(out, i, Word::Nothing, Word::End)
 }
 
@@ -29,7 +31,7 @@ pub fn line_of_bytes(out: &mut [u8], s: &[u8]) -> usize
 {
     let read = reader::read(s);
     match read {
-        Reply::Refused(number) => write_line(out, 0, Verdict::Limit(number)),
-        Reply::Job(j) => write_line(out, j.n, verdict::verdict_of(j)),
+        Reading::Refused(number) => write_line(out, 0, Verdict::Limit(number)),
+        Reading::Job(j) => write_line(out, j.n, verdict::verdict_of(j)),
     }
 }

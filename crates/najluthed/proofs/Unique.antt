@@ -4,29 +4,29 @@ use mathlib.Core.List.{List}
 use Prim.Native.Nat.{ℕ}
 use lib.IntN.{ℤ, pos}
 use Rattle.replies.specs.Bytes.{SaysOf}
-use Rattle.verdict.specs.Replies.{numberOf, streamOf, hopsOf}
+use Rattle.verdict.specs.Verdicts.{numberOf, streamOf, hopsOf}
 use Rattle.replies.specs.declared.bytes.Room.{Room}
 use Rattle.replies.specs.declared.bytes.Room.the-variants as Room
 use Rattle.replies.proofs.Unique.{says-of-unique, counts-unique}
-use Rattle.answers.specs.Answers.{numberOf as numberIn, countIn}
-use Rattle.answers.specs.declared.Reply.{Reply as RunReply}
-use Rattle.lookup.specs.declared.Worked.{Worked as Lookup}
-use Rattle.lookup.specs.declared.Worked.the-variants as Lookup
+use Rattle.checks.specs.Answers.{numberOf as numberIn, countIn}
+use Rattle.checks.specs.declared.RunReply.{RunReply}
+use Rattle.array.specs.declared.lookup.Lookup.{Lookup}
+use Rattle.array.specs.declared.lookup.Lookup.the-variants as Lookup
 use Rattle.array.proofs.UniqueReplies.{runs-of-unique, single-tick-of-unique}
-use Rattle.lookup.proofs.Unique.{looks-of-unique}
-use Rattle.loops.specs.declared.Reply.{Reply as LoopReply}
-use Rattle.loops.specs.declared.Reply.the-variants as Loop
-use Rattle.loops.proofs.LoopUnique.{loops-of-unique}
-use Rattle.najluthed.specs.declared.Reply.{Reply}
+use Rattle.array.proofs.Unique.{looks-of-unique}
+use Rattle.array.specs.declared.loops.LoopReply.{LoopReply}
+use Rattle.array.specs.declared.loops.LoopReply.the-variants as Loop
+use Rattle.array.proofs.LoopUnique.{loops-of-unique}
+use Rattle.najluthed.specs.declared.Judged.{Judged}
 use Rattle.najluthed.specs.declared.Done.{Done}
-use Rattle.najluthed.specs.declared.Worked.{Worked}
+use Rattle.najluthed.specs.declared.PointReply.{PointReply}
 use Rattle.najluthed.specs.Calls.{AnswersVerdict, AnswersRoom, AnswersRun, AnswersTick, AnswersLoop, AnswersPoint, Gives, GivesRoom, GivesPoints, GivesAt, GivesPoint}
 
 -- one number and one count make one answer
 same-done : (n c : ℕ) (a b : Done) → Gives n c a → Gives n c b → a ≡ b
 same-done n c a b p q = ap₂ (λ (x y : ℕ). record { number = x; count = y }) (p .0 ∙ sym (q .0)) (p .1 ∙ sym (q .1))
 
-pub answers-verdict-unique : (s : List ℕ) (a b : Reply) → AnswersVerdict s a → AnswersVerdict s b → a ≡ b
+pub answers-verdict-unique : (s : List ℕ) (a b : Judged) → AnswersVerdict s a → AnswersVerdict s b → a ≡ b
 answers-verdict-unique s a b p q =
     let e = says-of-unique s (p .0) (q .0) (p .1) (q .1) in
     ap₂ (λ (x y : ℕ). record { number = x; stream = y; hops = a .hops }) (p .2 ∙ ap numberOf e ∙ sym (q .2)) (p .3 ∙ ap streamOf e ∙ sym (q .3))
@@ -66,18 +66,18 @@ module _ (s input values places v p v′ p′ : List ℕ) (a b : Done) where
       (same-run (e .0) (f .2) (g .2), e .1, e .2)
 
 -- the look-up
-same-worked : (n f : ℕ) (x0 x1 x2 x3 : ℤ) (a b : Worked) → GivesAt n f x0 x1 x2 x3 a → GivesAt n f x0 x1 x2 x3 b → a ≡ b
+same-worked : (n f : ℕ) (x0 x1 x2 x3 : ℤ) (a b : PointReply) → GivesAt n f x0 x1 x2 x3 a → GivesAt n f x0 x1 x2 x3 b → a ≡ b
 same-worked n f x0 x1 x2 x3 a b p q = made (p .0 ∙ sym (q .0)) (p .1 ∙ sym (q .1)) (p .2 ∙ sym (q .2)) (p .3 ∙ sym (q .3)) (p .4 ∙ sym (q .4)) (p .5 ∙ sym (q .5))
   where
     made : a .number ≡ b .number → a .found ≡ b .found → a .x0 ≡ b .x0 → a .x1 ≡ b .x1 → a .x2 ≡ b .x2 → a .x3 ≡ b .x3 → a ≡ b
     made e0 e1 e2 e3 e4 e5 = λ i. record { number = e0 i; found = e1 i; x0 = e2 i; x1 = e3 i; x2 = e4 i; x3 = e5 i }
 
-same-point : (r : Lookup) (a b : Worked) → GivesPoint r a → GivesPoint r b → a ≡ b
+same-point : (r : Lookup) (a b : PointReply) → GivesPoint r a → GivesPoint r b → a ≡ b
 same-point (Lookup.At p) a b = same-worked 0 1 (p .x0) (p .x1) (p .x2) (p .x3) a b
 same-point Lookup.Nowhere a b = same-worked 0 0 (pos 0) (pos 0) (pos 0) (pos 0) a b
 same-point (Lookup.Refused v) a b = same-worked (numberOf v) 0 (pos 0) (pos 0) (pos 0) (pos 0) a b
 
-pub answers-point-unique : (s : List ℕ) (t x : ℕ) (a b : Worked) → AnswersPoint s t x a → AnswersPoint s t x b → a ≡ b
+pub answers-point-unique : (s : List ℕ) (t x : ℕ) (a b : PointReply) → AnswersPoint s t x a → AnswersPoint s t x b → a ≡ b
 answers-point-unique s t x a b p q =
     let e = looks-of-unique s t x (p .0) (q .0) (p .1) (q .1) in
     same-point (q .0) a b (subst (λ (r : Lookup). GivesPoint r a) e (p .2)) (q .2)

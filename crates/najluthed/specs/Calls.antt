@@ -4,26 +4,26 @@ use mathlib.Core.List.{List}
 use Prim.Native.Nat.{ℕ}
 use lib.IntN.{ℤ, pos}
 use Rattle.job.specs.declared.Job.{Job}
-use Rattle.verdict.specs.Replies.{numberOf, streamOf, hopsOf}
+use Rattle.verdict.specs.Verdicts.{numberOf, streamOf, hopsOf}
 use Rattle.replies.specs.Bytes.{SaysOf, Counts}
 use Rattle.verdict.specs.declared.Verdict.{Verdict}
 use Rattle.replies.specs.declared.bytes.Room.{Room}
 use Rattle.replies.specs.declared.bytes.Room.the-variants as Room
-use Rattle.loops.specs.LoopBytes.{LoopsOf}
-use Rattle.loops.specs.declared.Reply.{Reply as LoopReply}
-use Rattle.loops.specs.declared.Reply.the-variants as Loop
+use Rattle.array.specs.LoopBytes.{LoopsOf}
+use Rattle.array.specs.declared.loops.LoopReply.{LoopReply}
+use Rattle.array.specs.declared.loops.LoopReply.the-variants as Loop
 use Rattle.array.specs.Runs.{Runs, SingleTick, RepliesOf}
-use Rattle.answers.specs.Answers.{numberOf as numberIn, countIn}
-use Rattle.lookup.specs.Lookups.{LooksOf}
-use Rattle.answers.specs.declared.Reply.{Reply as RunReply}
-use Rattle.lookup.specs.declared.Worked.{Worked as Lookup}
-use Rattle.lookup.specs.declared.Worked.the-variants as Lookup
-use Rattle.najluthed.specs.declared.Reply.{Reply}
+use Rattle.checks.specs.Answers.{numberOf as numberIn, countIn}
+use Rattle.array.specs.Lookups.{LooksOf}
+use Rattle.checks.specs.declared.RunReply.{RunReply}
+use Rattle.array.specs.declared.lookup.Lookup.{Lookup}
+use Rattle.array.specs.declared.lookup.Lookup.the-variants as Lookup
+use Rattle.najluthed.specs.declared.Judged.{Judged}
 use Rattle.najluthed.specs.declared.Done.{Done}
-use Rattle.najluthed.specs.declared.Worked.{Worked}
+use Rattle.najluthed.specs.declared.PointReply.{PointReply}
 
 -- the verdict on the bytes in three numbers
-abbrev pub AnswersVerdict : List ℕ → Reply → Type 0
+abbrev pub AnswersVerdict : List ℕ → Judged → Type 0
 AnswersVerdict s a = (v : Verdict) × SaysOf s v × (a .number ≡ numberOf v) × (a .stream ≡ streamOf v) × (a .hops ≡ hopsOf v)
 
 -- a number of refusal, 0 for none, and a count
@@ -61,13 +61,13 @@ abbrev pub AnswersLoop : List ℕ → List ℕ → List ℕ → List ℕ → Don
 AnswersLoop s input before after a = (r : LoopReply) × LoopsOf s input before after r × GivesPoints r a
 
 -- the point worked in a tick at a cell: found is 1 where there is one, and its coordinates, 0 where there is none
-abbrev pub GivesAt : ℕ → ℕ → ℤ → ℤ → ℤ → ℤ → Worked → Type 0
+abbrev pub GivesAt : ℕ → ℕ → ℤ → ℤ → ℤ → ℤ → PointReply → Type 0
 GivesAt number found x0 x1 x2 x3 a = (a .number ≡ number) × (a .found ≡ found) × (a .x0 ≡ x0) × (a .x1 ≡ x1) × (a .x2 ≡ x2) × (a .x3 ≡ x3)
 
-abbrev pub GivesPoint : Lookup → Worked → Type 0
+abbrev pub GivesPoint : Lookup → PointReply → Type 0
 GivesPoint (Lookup.At p) = GivesAt 0 1 (p .x0) (p .x1) (p .x2) (p .x3)
 GivesPoint Lookup.Nowhere = GivesAt 0 0 (pos 0) (pos 0) (pos 0) (pos 0)
 GivesPoint (Lookup.Refused v) = GivesAt (numberOf v) 0 (pos 0) (pos 0) (pos 0) (pos 0)
 
-abbrev pub AnswersPoint : List ℕ → ℕ → ℕ → Worked → Type 0
+abbrev pub AnswersPoint : List ℕ → ℕ → ℕ → PointReply → Type 0
 AnswersPoint s t x a = (r : Lookup) × LooksOf s t x r × GivesPoint r a

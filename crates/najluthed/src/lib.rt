@@ -5,7 +5,7 @@ ghost use Rattle.najluthed.specs.Calls.{AnswersVerdict, AnswersRoom, Ans
 
 // The number of refusal, 0 for accepted; stream and hops are 0 where the table lists none.
 #[repr(C)]
-pub struct Reply {
+pub struct Judged {
     pub number: u32,
     pub stream: u32,
     pub hops: i64,
@@ -20,7 +20,7 @@ pub struct Done {
 
 // The number of refusal, 0 for none; whether there is a point, 1 or 0; and its coordinates, 0 where there is none.
 #[repr(C)]
-pub struct Worked {
+pub struct PointReply {
     pub number: u32,
     pub found: u32,
     pub x0: i64,
@@ -31,13 +31,13 @@ pub struct Worked {
 
 // The verdict.
 #[no_mangle]
-pub extern "C" fn najluthed_verdict(job: &[u8]) -> Reply
+pub extern "C" fn najluthed_verdict(job: &[u8]) -> Judged
     ensures { λ a. ⌜ AnswersVerdict (now (job .entry)) a ⌝ }
 {
     let v = replies::bytes::verdict_of_bytes(job);
     let judged = replies::numbers::answer_of(v);
     let hops = judged.hops;
-    Reply {
+    Judged {
         number: wide(judged.number),
         stream: wide(judged.stream),
         hops,
@@ -76,7 +76,7 @@ pub extern "C" fn najluthed_run(
     ensures { λ a. ⌜ AnswersRun (now (job .entry)) (now (input .entry)) (now (values .entry)) (now (places .entry)) (now (values .exit)) (now (places .exit)) a ⌝ }
 {
     let r = array::run_of_bytes(job, input, &mut values[..], &mut places[..]);
-    let ran = answers::answer_of(r);
+    let ran = checks::answer_of(r);
     Done {
         number: wide(ran.number),
         count: ran.count,
@@ -95,7 +95,7 @@ pub extern "C" fn najluthed_tick(
     ensures { λ a. ⌜ AnswersTick tick (now (job .entry)) (now (input .entry)) (now (values .entry)) (now (places .entry)) (now (values .exit)) (now (places .exit)) a ⌝ }
 {
     let r = array::tick_of_bytes(job, tick, input, &mut values[..], &mut places[..]);
-    let ticked = answers::answer_of(r);
+    let ticked = checks::answer_of(r);
     Done {
         number: wide(ticked.number),
         count: ticked.count,
@@ -107,13 +107,13 @@ pub extern "C" fn najluthed_tick(
 pub extern "C" fn najluthed_loop(job: &[u8], input: &[u32], values: &mut [u32]) -> Done
     ensures { λ a. ⌜ AnswersLoop (now (job .entry)) (now (input .entry)) (now (values .entry)) (now (values .exit)) a ⌝ }
 {
-    let r = loops::loop_of_bytes(job, input, &mut values[..]);
+    let r = array::loops::loop_of_bytes(job, input, &mut values[..]);
     match r {
-        loops::Reply::Points(points) => Done {
+        array::loops::LoopReply::Points(points) => Done {
             number: 0,
             count: points,
         },
-        loops::Reply::Refused(number) => Done {
+        array::loops::LoopReply::Refused(number) => Done {
             number: wide(number),
             count: 0,
         },
@@ -122,12 +122,12 @@ pub extern "C" fn najluthed_loop(job: &[u8], input: &[u32], values: &mut [u32]) 
 
 // The point worked in a tick at a cell.
 #[no_mangle]
-pub extern "C" fn najluthed_point(job: &[u8], tick: u64, cell: u64) -> Worked
+pub extern "C" fn najluthed_point(job: &[u8], tick: u64, cell: u64) -> PointReply
     ensures { λ a. ⌜ AnswersPoint (now (job .entry)) tick cell a ⌝ }
 {
-    let worked = lookup::point_at_bytes(job, tick, cell);
+    let worked = array::lookup::point_at_bytes(job, tick, cell);
     match worked {
-        lookup::Worked::At(p) => Worked {
+        array::lookup::Lookup::At(p) => PointReply {
             number: 0,
             found: 1,
             x0: p.x0,
@@ -135,7 +135,7 @@ pub extern "C" fn najluthed_point(job: &[u8], tick: u64, cell: u64) -> Worked
             x2: p.x2,
             x3: p.x3,
         },
-        lookup::Worked::Nowhere => Worked {
+        array::lookup::Lookup::Nowhere => PointReply {
             number: 0,
             found: 0,
             x0: 0,
@@ -143,9 +143,9 @@ pub extern "C" fn najluthed_point(job: &[u8], tick: u64, cell: u64) -> Worked
             x2: 0,
             x3: 0,
         },
-        lookup::Worked::Refused(v) => {
+        array::lookup::Lookup::Refused(v) => {
             let refused = replies::numbers::answer_of(v);
-            Worked {
+            PointReply {
                 number: wide(refused.number),
                 found: 0,
                 x0: 0,

@@ -37,7 +37,7 @@ pub fn put_number(out: &mut [u8], at: usize, x: i64) -> usize
     requires { ⌜ Fits (now out) at (decimal x) ⌝ }
     ensures { λ r. ⌜ Put (now (out .entry)) at (decimal x) r (now (out .exit)) ⌝ }
 {
-    let size = divisors::divisor::size(x);
+    let size = space::divisor::size(x);
     if x < 0 {
         out[at] = b'-';
         return put_digits(out, at + 1, DIGITS, size);

@@ -14,8 +14,8 @@ use Rattle.layout.proofs.Injective.{file-length}
 use Rattle.layout.proofs.Totals.{total-small}
 use Rattle.header.specs.Header.{at, pairAt, Counted, Placed}
 use Rattle.reader.specs.Reading.{fileChecks, Reads}
-use Rattle.reader.specs.declared.Reply.{Reply}
-use Rattle.reader.specs.declared.Reply.the-variants as R
+use Rattle.reader.specs.declared.Reading.{Reading}
+use Rattle.reader.specs.declared.Reading.the-variants as R
 
 -- ---- the longest job
 pub longest : (j : Job) → Shaped j → length (fileOf j) ≤ 68
@@ -80,6 +80,6 @@ module _ (s : List ℕ) (long : 69 ≤ length s) where
   front-first r (inl (a, inl (b, inl (c, inl (p, inl h))))) = absurd (too-many c p (h .0))
 
   -- the reply is that of the first 69 bytes
-  pub front-suffices : (r : Reply) → Reads s r → Reads front r
+  pub front-suffices : (r : Reading) → Reads s r → Reads front r
   front-suffices (R.Job j) h = let l = longest j (h .0 .shaped) in absurd (omega (arith, ap length (h .1)))
   front-suffices (R.Refused r) h = (front-first r (h .0), h .1)

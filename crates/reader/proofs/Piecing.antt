@@ -8,13 +8,13 @@ use lib.IntN.{ℤ, pos}
 use lib.ListN.{length, take, drop, length-drop, take-append-drop, List·getD-eq-default}
 use lib.Seq.{take-all, length-take-le}
 use Rattle.space.specs.declared.Vector.{Vector}
-use Rattle.boxes.specs.declared.Bounds.{Bounds}
+use Rattle.space.specs.declared.boxes.Bounds.{Bounds}
 use Rattle.space.specs.Vectors.{entries}
-use Rattle.boxes.specs.Boxes.{boxOf}
+use Rattle.space.specs.Boxes.{boxOf}
 use Rattle.space.proofs.Parts.{int}
 use Rattle.job.specs.Record.{zeroVector}
 use Rattle.job.specs.Limits.{Unused}
-use Rattle.layout.specs.Layout.{complement, entryBytes, InByte, Held, sideBytes}
+use Rattle.layout.specs.Layout.{complement, entryBytes, InByte, InBytes, sideBytes}
 use Rattle.layout.proofs.Entries.{below-256, byte-injective}
 use Rattle.header.specs.Header.{at}
 use Rattle.reader.specs.Pieces.{part, EntryAt, EntriesAt, VectorIn, BoxIn, StreamIn}
@@ -25,7 +25,7 @@ pub zero-held : InByte (pos 0)
 zero-held = record { low = omega int; high = omega int }
 
 -- and so is a vector of zeros
-pub zeros-held : Held zeroVector
+pub zeros-held : InBytes zeroVector
 zeros-held = record { x0 = zero-held; x1 = zero-held; x2 = zero-held; x3 = zero-held }
 
 module _ {l : List ℕ} {i : ℕ} {z : ℤ} (e : EntryAt l i z) where
@@ -38,7 +38,7 @@ module _ {l : List ℕ} {i : ℕ} {z : ℤ} (e : EntryAt l i z) where
   entry-past h = byte-injective z (pos 0) (e .held) zero-held (e .byte ∙ List·getD-eq-default l 0 h)
 
 -- entries are held in bytes
-entries-held : {l : List ℕ} {p q t u : ℕ} {v : Vector} → EntriesAt l p q t u v → Held v
+entries-held : {l : List ℕ} {p q t u : ℕ} {v : Vector} → EntriesAt l p q t u v → InBytes v
 entries-held e = record { x0 = e .x0 .held; x1 = e .x1 .held; x2 = e .x2 .held; x3 = e .x3 .held }
 
 -- those past the end are 0

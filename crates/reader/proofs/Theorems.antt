@@ -13,20 +13,20 @@ use Rattle.job.specs.Refusals.{First}
 use Rattle.job.specs.Limits.{Unused, Idle, Shaped, Sound, Acceptable}
 use Rattle.job.proofs.Refusing.{first-unique, acceptable}
 use Rattle.job.proofs.Accepting.{empty-sized}
-use Rattle.layout.specs.Layout.{streamsFrom, matricesFrom, totalOf, headerOf, fileOf, Held, Lays}
+use Rattle.layout.specs.Layout.{streamsFrom, matricesFrom, totalOf, headerOf, fileOf, InBytes, Lays}
 use Rattle.layout.proofs.Entries.{sized-held}
 use Rattle.layout.proofs.Injective.{lays-unique, file-length}
 use Rattle.layout.proofs.Totals.{total-small}
 use Rattle.reader.specs.Reading.{fileChecks, Reads, OfBytes}
 use Rattle.reader.specs.Pieces.{Headed}
-use Rattle.reader.specs.declared.Reply.{Reply}
-use Rattle.reader.specs.declared.Reply.the-variants as R
+use Rattle.reader.specs.declared.Reading.{Reading}
+use Rattle.reader.specs.declared.Reading.the-variants as R
 use Rattle.reader.proofs.Places.{pair-value}
 use Rattle.reader.proofs.Replying.{record-first}
 
 -- ---- an acceptable job's entries are held in bytes
 -- a vector that is not used
-unused-held : (v : Vector) → Unused 0 v → Held v
+unused-held : (v : Vector) → Unused 0 v → InBytes v
 unused-held v u = sized-held {b = 0} (omega arith) (empty-sized 0 v u)
 
 -- a place is used or not
@@ -38,11 +38,11 @@ by-place {P} i n f g = by (decLe n i)
     by (no h) = f (omega arith)
 
 -- a stream that is sound where it is used
-stream-held : (i m : ℕ) (t : Stream) → (i < m → Sound m t) → (m ≤ i → Idle t) → Held (t .d)
+stream-held : (i m : ℕ) (t : Stream) → (i < m → Sound m t) → (m ≤ i → Idle t) → InBytes (t .d)
 stream-held i m t f g = by-place i m (λ h. sized-held (omega arith) (f h .small)) (λ h. unused-held (t .d) (g h .vector))
 
 -- a row that is under its limit where it is used
-row-held : (i m : ℕ) (v : Vector) → (i < m → Sized 127 (entries v)) → (m ≤ i → Unused 0 v) → Held v
+row-held : (i m : ℕ) (v : Vector) → (i < m → Sized 127 (entries v)) → (m ≤ i → Unused 0 v) → InBytes v
 row-held i m v f g = by-place i m (λ h. sized-held (omega arith) (f h)) (λ h. unused-held v (g h))
 
 -- so it is laid out by its file
@@ -91,7 +91,7 @@ acceptable-first : (j : Job) (s : List ℕ) → Acceptable j → fileOf j ≡ s 
 acceptable-first j s a e = record-first s (subst Headed e (file-headed j (a .shaped))) j (acceptable-lays j s a e) 0 (acceptable j a)
 
 -- two replies to the same bytes are one
-pub reads-unique : (s : List ℕ) (r r′ : Reply) → Reads s r → Reads s r′ → r ≡ r′
+pub reads-unique : (s : List ℕ) (r r′ : Reading) → Reads s r → Reads s r′ → r ≡ r′
 reads-unique s (R.Job j) (R.Job j′) p q = ap R.Job (lays-unique j j′ s (acceptable-lays j s (p .0) (p .1)) (acceptable-lays j′ s (q .0) (q .1)))
 reads-unique s (R.Job j) (R.Refused r) p q = absurd (q .1 (first-unique (fileChecks s) r 0 (q .0) (acceptable-first j s (p .0) (p .1))))
 reads-unique s (R.Refused r) (R.Job j) p q = absurd (p .1 (first-unique (fileChecks s) r 0 (p .0) (acceptable-first j s (q .0) (q .1))))

@@ -5,12 +5,12 @@ use Prim.Native.Nat.{ℕ, _+_, _*_, _≤_, _<_}
 use lib.IntN.{ℤ}
 use lib.ListN.{length, take, drop}
 use Rattle.space.specs.declared.Vector.{Vector}
-use Rattle.boxes.specs.declared.Bounds.{Bounds}
-use Rattle.boxes.specs.Boxes.{boxOf}
+use Rattle.space.specs.declared.boxes.Bounds.{Bounds}
+use Rattle.space.specs.Boxes.{boxOf}
 use Rattle.job.specs.declared.Stream.{Stream}
 use Rattle.job.specs.Record.{noStream, zeroVector}
 use Rattle.job.specs.Limits.{Unused}
-use Rattle.layout.specs.Layout.{complement, joined, vectorBytes, streamBytes, streamsFrom, matricesFrom, InByte, Held, sideBytes}
+use Rattle.layout.specs.Layout.{complement, joined, vectorBytes, streamBytes, streamsFrom, matricesFrom, InByte, InBytes, sideBytes}
 use Rattle.header.specs.Header.{at, pairAt, Counted, Placed}
 
 -- the w bytes from a place on
@@ -41,28 +41,28 @@ pub record EntriesAt (s : List ℕ) (p q t u : ℕ) (v : Vector) : Type 0 where
 pub record VectorIn (n : ℕ) (l : List ℕ) (v : Vector) : Type 0 where
   pub bytes : vectorBytes 1 n v ≡ l
   pub unused : Unused n v
-  pub held : Held v
+  pub held : InBytes v
 
 -- l are the bytes of b, a box of n dimensions
 pub record BoxIn (n : ℕ) (l : List ℕ) (b : Bounds) : Type 0 where
   pub bytes : joined (sideBytes 1) n (boxOf b) ≡ l
   pub unused : Unused n (b .low) × Unused n (b .high)
-  pub held : Held (b .low) × Held (b .high)
+  pub held : InBytes (b .low) × InBytes (b .high)
 
 -- l are the bytes of t, a stream of n dimensions
 pub record StreamIn (n : ℕ) (l : List ℕ) (t : Stream) : Type 0 where
   pub bytes : streamBytes 1 n t ≡ l
   pub unused : Unused n (t .d)
-  pub held : Held (t .d)
+  pub held : InBytes (t .d)
 
 -- t is stream i of the m that s has, or unused
 pub record StreamAt (s : List ℕ) (n m i : ℕ) (t : Stream) : Type 0 where
   pub used : i < m → StreamIn n (part s (streamsFrom 1 n + i * (n + 4)) (n + 4)) t
   pub idle : m ≤ i → t ≡ noStream
-  pub held : Held (t .d)
+  pub held : InBytes (t .d)
 
 -- v is row i of the 1 + k that s has, H first, or unused
 pub record RowAt (s : List ℕ) (n k m i : ℕ) (v : Vector) : Type 0 where
   pub used : i < 1 + k → VectorIn n (part s (matricesFrom 1 n m + i * n) n) v
   pub idle : 1 + k ≤ i → v ≡ zeroVector
-  pub held : Held v
+  pub held : InBytes v

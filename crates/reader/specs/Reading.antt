@@ -9,8 +9,8 @@ use Rattle.job.specs.Record.{Firsts, streamsOf}
 use Rattle.job.specs.Limits.{Boxed, Sound, Rowed, Acceptable}
 use Rattle.layout.specs.Layout.{fileOf, Lays}
 use Rattle.header.specs.Header.{headChecks}
-use Rattle.reader.specs.declared.Reply.{Reply}
-use Rattle.reader.specs.declared.Reply.the-variants as R
+use Rattle.reader.specs.declared.Reading.{Reading}
+use Rattle.reader.specs.declared.Reading.the-variants as R
 
 -- 6 to 8, of the record that the bytes lay out: past 1 to 5 there is exactly one
 abbrev pub fileChecks : List ℕ → Checks
@@ -20,7 +20,7 @@ fileChecks s =
     (check 7 ((j : Job) → Lays j s → Firsts (Sound (j .m)) (j .m) (streamsOf j)) (check 8 ((j : Job) → Lays j s → Rowed j) done)))
 
 -- what a reply says of the bytes: the one acceptable job whose file they are, or the refusal
-abbrev pub Reads : List ℕ → Reply → Type 0
+abbrev pub Reads : List ℕ → Reading → Type 0
 Reads s (R.Job j) = Acceptable j × (fileOf j ≡ s)
 Reads s (R.Refused r) = First (fileChecks s) r × (r ≡ 0 → ⊥)
 

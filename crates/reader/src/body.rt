@@ -1,8 +1,8 @@
 // What follows the header: the box, the streams and the matrices, each piece from a part of the bytes.
-use boxes::Bounds;
 use job::Job;
 use job::Stream;
 use space::Vector;
+use space::boxes::Bounds;
 ghost use mathlib.Core.Path.{_≡_};
 ghost use Prim.Native.Nat.{ℕ, _+_, _*_, _≤_};
 ghost use lib.ListN.{length};

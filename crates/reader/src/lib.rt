@@ -5,23 +5,23 @@ use job::Job;
 ghost use Rattle.reader.specs.Reading.{Reads};
 
 // What reading answers.
-pub enum Reply {
+pub enum Reading {
     Job(Job),
     Refused(u8),
 }
 
 // The job whose file the bytes are, or the number of the first check that they do not pass.
-pub fn read(s: &[u8]) -> Reply
+pub fn read(s: &[u8]) -> Reading
     ensures { λ r. ⌜ Reads (now (s .entry)) r ⌝ }
 {
     let head = header::number(s);
     if head != 0 {
-        return Reply::Refused(head);
+        return Reading::Refused(head);
     }
     let j = body::job_of(s);
-    let number = limits::number(j);
+    let number = job::limits::number(j);
     if number != 0 {
-        return Reply::Refused(number);
+        return Reading::Refused(number);
     }
-    Reply::Job(j)
+    Reading::Job(j)
 }

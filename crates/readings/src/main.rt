@@ -1,7 +1,7 @@
 // Runs byte strings through the reader and, where they are a job, back through the writer. What it prints is held against the stored output.
 use job::Job;
 use libc::STDOUT_FILENO;
-use reader::Reply;
+use reader::Reading;
 use writer::Wrote;
 
 // The 30 bytes of document 01: box 0..1 squared, one local stream along (0,1), H (1,2), S (1,2).
@@ -73,12 +73,12 @@ fn tell(name: &[u8], s: &[u8]) {
     say(name);
     let read = reader::read(s);
     match read {
-        Reply::Refused(n) => {
+        Reading::Refused(n) => {
             say(b": refused ");
             io::print_decimal(STDOUT_FILENO, wide(n));
             say(b"\n");
         }
-        Reply::Job(j) => {
+        Reading::Job(j) => {
             if is_written_back(j, s) {
                 say(b": a job, and written back the same\n");
             } else {

@@ -1,6 +1,6 @@
 -- 'gets number, stream and f; the number is 0 for accepted, and stream and f are 0 where the table lists none'.
 use mathlib.Core.Path.{_≡_}
-use Rattle.verdict.specs.Replies.{numberOf, streamOf, hopsOf}
+use Rattle.verdict.specs.Verdicts.{numberOf, streamOf, hopsOf}
 use Rattle.verdict.specs.declared.Verdict.{Verdict}
 use Rattle.replies.specs.declared.numbers.Answer.{Answer}
 

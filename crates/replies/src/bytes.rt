@@ -1,9 +1,9 @@
 // The verdict on job bytes, and the room count of a record and of bytes.
 use job::Job;
-use reader::Reply;
+use reader::Reading;
 use verdict::Verdict;
 ghost use mathlib.Core.Path.{_≡_};
-ghost use Rattle.verdict.specs.Replies.{Says};
+ghost use Rattle.verdict.specs.Verdicts.{Says};
 ghost use Rattle.replies.specs.Bytes.{SaysOf, Counts, roomOf};
 
 // How many register places an accepted array has, or the refusal.
@@ -18,8 +18,8 @@ pub fn verdict_of_bytes(s: &[u8]) -> Verdict
 {
     let read = reader::read(s);
     match read {
-        Reply::Refused(number) => Verdict::Limit(number),
-        Reply::Job(j) => verdict::verdict_of(j),
+        Reading::Refused(number) => Verdict::Limit(number),
+        Reading::Job(j) => verdict::verdict_of(j),
     }
 }
 

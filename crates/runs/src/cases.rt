@@ -1,24 +1,24 @@
 // One case: what run, loop and single ticks make of a job and its input.
+use crate::guarded::GUARD;
+use crate::guarded::front;
+use crate::guarded::is_guarded;
+use crate::guarded::is_same;
+use crate::guarded::part;
+use crate::guarded::rest;
 use crate::print::every;
 use crate::print::holds;
 use crate::print::number;
 use crate::print::reply;
 use crate::print::say;
 use crate::print::wide;
-use crate::tables::GUARD;
-use crate::tables::front;
-use crate::tables::is_guarded;
-use crate::tables::is_same;
-use crate::tables::part;
-use crate::tables::rest;
-use answers::Answer;
+use checks::Answer;
 use job::Job;
 use verdict::Verdict;
 
 // The replies of run and loop, with the run's value table and so many of 80 places lent; then their values side by side, or that nothing was altered.
 pub fn compare(j: Job, input: &[u32], run: &mut [u32], lent: usize) {
     let mut places = [GUARD; 80];
-    let a = answers::answer_of(array::run_of(j, input, &mut run[..], part(&mut places, lent)));
+    let a = checks::answer_of(array::run_of(j, input, &mut run[..], part(&mut places, lent)));
     reply(b"run", a, b" 0 ticks");
     unchanged(a, &run[..], &places);
     beside(j, input, a, &run[..]);
@@ -36,7 +36,7 @@ pub fn unchanged(a: Answer, table: &[u32], places: &[u32]) {
 fn beside(j: Job, input: &[u32], a: Answer, run: &[u32]) {
     let mut looped = [GUARD; 81];
     let n = run.len();
-    let b = points(loops::loop_of(j, input, part(&mut looped, n)));
+    let b = points(array::loops::loop_of(j, input, part(&mut looped, n)));
     reply(b"loop", b, b" 0 points");
     unchanged(b, &looped, run);
     if a.number == 0 {
@@ -45,17 +45,21 @@ fn beside(j: Job, input: &[u32], a: Answer, run: &[u32]) {
 }
 
 // The loop's reply in numbers: the number of refusal, 0 for none, and the point count.
-fn points(r: loops::Reply) -> Answer {
+fn points(r: array::loops::LoopReply) -> Answer {
     match r {
-        loops::Reply::Points(count) => Answer { number: 0, count },
-        loops::Reply::Refused(number) => Answer { number, count: 0 },
+        array::loops::LoopReply::Points(count) => Answer { number: 0, count },
+        array::loops::LoopReply::Refused(number) => Answer { number, count: 0 },
     }
 }
 
 // A line for each stream.
 fn streams(j: Job, run: &[u32], looped: &[u32]) {
     for s in 0..j.m {
-        stream(s, rows::row_of(j, run, s), rows::row_of(j, looped, s));
+        stream(
+            s,
+            tables::rows::row_of(j, run, s),
+            tables::rows::row_of(j, looped, s),
+        );
     }
 }
 
@@ -105,7 +109,7 @@ fn is_ticked(j: Job, input: &[u32], ticks: u64, run: &[u32], places: &[u32]) -> 
 fn each_tick(j: Job, input: &[u32], ticks: u64, table: &mut [u32], places: &mut [u32]) -> bool {
     let mut all = true;
     for t in 0..ticks {
-        let a = answers::answer_of(array::tick_of(j, t, input, &mut table[..], &mut places[..]));
+        let a = checks::answer_of(array::tick_of(j, t, input, &mut table[..], &mut places[..]));
         all = all & (a.number == 0) & (a.count == ticks);
     }
     all

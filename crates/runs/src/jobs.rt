@@ -1,8 +1,8 @@
 // The jobs that are run: those of the paper's list that are accepted, matrix products, and jobs to be refused.
-use boxes::Bounds;
 use job::Job;
 use job::Stream;
 use space::Vector;
+use space::boxes::Bounds;
 
 // A vector of three entries.
 pub fn vector(x0: i64, x1: i64, x2: i64) -> Vector {

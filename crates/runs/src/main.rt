@@ -1,24 +1,24 @@
 // Run and loop side by side, on the paper's small jobs, on matrix products and on jobs that are refused.
 mod cases;
+mod guarded;
 mod inputs;
 mod jobs;
 mod print;
-mod tables;
 mod timetable;
 
 use crate::cases::compare;
 use crate::cases::unchanged;
+use crate::guarded::GUARD;
+use crate::guarded::front;
+use crate::guarded::part;
 use crate::inputs::matrices;
 use crate::inputs::numbers;
 use crate::jobs::vector;
 use crate::print::every;
 use crate::print::reply;
 use crate::print::say;
-use crate::tables::GUARD;
-use crate::tables::front;
-use crate::tables::part;
 use crate::timetable::timetable;
-use answers::Answer;
+use checks::Answer;
 use job::Job;
 use space::Vector;
 
@@ -126,7 +126,7 @@ fn product(title: &[u8], rule: u8, row0: Vector, row1: Vector, x: u32) {
     say(title);
     compare(j, &input, &mut run, 80);
     say(b"result");
-    every(3, rows::row_of(j, &run, 2));
+    every(3, tables::rows::row_of(j, &run, 2));
     say(b"\n");
 }
 
@@ -144,7 +144,7 @@ fn ticks() {
 fn tick(from: [u32; 3], rule: u8, t: u64, n: usize, lent: usize) {
     let mut table = [GUARD; 3];
     let mut places = from;
-    let a = answers::answer_of(array::tick_of(
+    let a = checks::answer_of(array::tick_of(
         crate::jobs::line(rule),
         t,
         &[1, 2, 3],
@@ -189,6 +189,6 @@ fn bytes() {
 fn from_bytes(s: &[u8]) {
     let mut table = [GUARD; 3];
     let mut places = [GUARD; 3];
-    let a = answers::answer_of(array::run_of_bytes(s, &[1, 2, 3], &mut table, &mut places));
+    let a = checks::answer_of(array::run_of_bytes(s, &[1, 2, 3], &mut table, &mut places));
     shown(a, &table, &places);
 }

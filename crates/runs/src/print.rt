@@ -1,5 +1,5 @@
 // Words, numbers and lines of output.
-use answers::Answer;
+use checks::Answer;
 use libc::STDOUT_FILENO;
 use space::Vector;
 ghost use Prim.Native.Nat.{_<_};
@@ -73,7 +73,7 @@ fn coordinate(x: i64) {
     if x < 0 {
         say(b"-");
     }
-    io::print_decimal(STDOUT_FILENO, divisors::divisor::size(x));
+    io::print_decimal(STDOUT_FILENO, space::divisor::size(x));
 }
 
 // The first two coordinates of a point, or the first alone where there is one.

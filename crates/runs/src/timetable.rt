@@ -2,8 +2,8 @@
 use crate::print::number;
 use crate::print::say;
 use crate::print::wide;
+use array::lookup::Lookup;
 use job::Job;
-use lookup::Worked;
 
 // A line for each tick.
 pub fn timetable(title: &[u8], j: Job, ticks: u64, cells: u64) {
@@ -32,7 +32,7 @@ fn cells_of(j: Job, t: u64, cells: u64) {
 // A blank and the point that is worked, or - for none.
 fn worked(j: Job, t: u64, x: u64) {
     say(b" ");
-    let w = lookup::point_at(j, t, x);
+    let w = array::lookup::point_at(j, t, x);
     match w {
         Worked::At(p) => crate::print::point(p, j.n),
         Worked::Nowhere => say(b"-"),

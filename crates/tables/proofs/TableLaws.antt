@@ -14,13 +14,13 @@ use lib.Seq.{getD-set-same, getD-set-other}
 use borrow.Author.Count.{below-more}
 use Rattle.space.specs.Numbers.{Tells}
 use Rattle.space.proofs.Telling.{tells-and, tells-eq}
-use Rattle.boxes.proofs.BackLaws.{back-before}
+use Rattle.space.proofs.BackLaws.{back-before}
 use Rattle.job.specs.declared.Job.{Job}
 use Rattle.job.specs.Refusals.{done}
 use Rattle.job.specs.Limits.{Acceptable}
 use Rattle.job.proofs.Accepting.{stream-sound}
-use Rattle.mapping.specs.Mapping.{box, stream, along}
-use Rattle.tables.specs.Tables.{points, Long, entryFor, previous}
+use Rattle.job.specs.Record.{box, stream, along, points}
+use Rattle.tables.specs.Tables.{Long, entryFor, previous}
 use Rattle.cell.specs.Cells.{ruled, work}
 use Rattle.tables.specs.Columns.{Column}
 use Rattle.space.proofs.Rows.{other-spot, rows-same}

@@ -5,7 +5,8 @@ use Prim.Native.Nat.{ℕ, _*_, _<_}
 use lib.ListN.{length, getD}
 use Rattle.job.specs.declared.Job.{Job}
 use Rattle.job.specs.Limits.{Acceptable}
-use Rattle.tables.specs.Tables.{points, entryFor}
+use Rattle.job.specs.Record.{points}
+use Rattle.tables.specs.Tables.{entryFor}
 use Rattle.cell.specs.Cells.{work}
 
 -- the job is acceptable, n is its point count, and the table has a column for each point

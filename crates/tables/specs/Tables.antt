@@ -4,13 +4,9 @@ use mathlib.Core.List.{List}
 use mathlib.Core.Option.{Option}
 use Prim.Native.Nat.{ℕ, _+_, _*_}
 use lib.ListN.{getD}
-use Rattle.boxes.specs.Boxes.{countOf, backOf}
+use Rattle.space.specs.Boxes.{backOf}
 use Rattle.job.specs.declared.Job.{Job}
-use Rattle.mapping.specs.Mapping.{box, along}
-
--- how many points the job has
-abbrev pub points : Job → ℕ
-points j = countOf (box j)
+use Rattle.job.specs.Record.{box, along, points}
 
 -- 13: 'input or value table not m × points long', of tables so long
 abbrev pub Long : Job → ℕ → ℕ → Type 0

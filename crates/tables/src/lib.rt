@@ -1,14 +1,16 @@
 // The tables of a job: where an entry stands, the point before one, and the work at one point.
-use boxes::Found;
+pub mod rows;
+
 use job::Job;
 use space::Vector;
+use space::boxes::Found;
 ghost use mathlib.Core.Path.{_≡_};
 ghost use Prim.Native.Nat.{_+_, _*_, _<_, _≤_};
 ghost use Rattle.space.specs.Vectors.{entries};
-ghost use Rattle.boxes.specs.Boxes.{pointOf, foundOf};
+ghost use Rattle.space.specs.Boxes.{pointOf, foundOf};
 ghost use Rattle.job.specs.Limits.{Acceptable};
-ghost use Rattle.mapping.specs.Mapping.{box};
-ghost use Rattle.tables.specs.Tables.{points as pointsOf, previous};
+ghost use Rattle.job.specs.Record.{box, points as pointsOf};
+ghost use Rattle.tables.specs.Tables.{previous};
 ghost use Rattle.tables.specs.Columns.{Ready, Column};
 
 // Where a table of so many points holds the entry for stream s and the point at place k.
@@ -26,7 +28,7 @@ pub fn size_of(j: Job) -> usize
     ensures few { λ r. ⌜ r ≤ 16384 ⌝ }
     ensures is { λ r. ⌜ r ≡ j .m * pointsOf j ⌝ }
 {
-    place_in_table(j.m, boxes::count(j.bounds), 0)
+    place_in_table(j.m, space::boxes::count(j.bounds), 0)
 }
 
 // The place of the point before p, the point at place k, on stream s.
@@ -35,7 +37,7 @@ pub fn previous_at(j: Job, s: u8, p: Vector, k: u64) -> Found
     ensures { λ r. ⌜ foundOf r ≡ previous j s k ⌝ }
 {
     let stream = job::stream_at(j, s);
-    boxes::back(j.bounds, stream.d, p)
+    space::boxes::back(j.bounds, stream.d, p)
 }
 
 // The work at the point at place k, from what came in there.

@@ -7,8 +7,8 @@ use denote.Enum.Declared.{tagOf}
 use Rattle.job.specs.declared.Job.{Job}
 use Rattle.job.specs.Limits.{Acceptable}
 use Rattle.verdict.specs.Rules.{Ahead, All}
-use Rattle.verdict.specs.Replies.{Says, numberOf}
-use Rattle.verdict.specs.declared.Size.{Size}
+use Rattle.verdict.specs.Verdicts.{Says, numberOf}
+use Rattle.verdict.specs.declared.Extent.{Extent}
 use Rattle.verdict.specs.declared.Verdict.{Verdict}
 use Rattle.verdict.specs.declared.Verdict.the-variants.{Accepted, Limit, Precedence, Hop, Cell, Link}
 use Rattle.verdict.proofs.Verdict.{the-type}
@@ -24,17 +24,17 @@ not-accepted j (Cell c) s o e = absurd (omega arith)
 not-accepted j (Link c) s o e = absurd (omega arith)
 
 -- an accepted job keeps the limits
-pub accepted-limits : {j : Job} {z : Size} → Says j (Accepted z) → Acceptable j
+pub accepted-limits : {j : Job} {z : Extent} → Says j (Accepted z) → Acceptable j
 accepted-limits s = s .kept .0 .0 .0 .0 .1
 
 -- and precedence
-pub accepted-ahead : {j : Job} {z : Size} → Says j (Accepted z) → Acceptable j × All Ahead j
+pub accepted-ahead : {j : Job} {z : Extent} → Says j (Accepted z) → Acceptable j × All Ahead j
 accepted-ahead s = (accepted-limits s, s .kept .0 .0 .0 .1)
 
 -- the sizes of one accepted array are the same
-pub sizes-same : (j : Job) (z z′ : Size) → Says j (Accepted z) → Says j (Accepted z′) → z ≡ z′
+pub sizes-same : (j : Job) (z z′ : Extent) → Says j (Accepted z) → Says j (Accepted z′) → z ≡ z′
 sizes-same j z z′ p q = let e = says-unique j (Accepted z) (Accepted z′) p q in cc
 
 -- an accepted job has no refusal
-pub no-refusal : (j : Job) (z : Size) (v : Verdict) → Says j (Accepted z) → Says j v → (numberOf v ≡ 0 → ⊥) → ⊥
+pub no-refusal : (j : Job) (z : Extent) (v : Verdict) → Says j (Accepted z) → Says j v → (numberOf v ≡ 0 → ⊥) → ⊥
 no-refusal j z v p q ne = ne (ap numberOf (says-unique j v (Accepted z) q p))

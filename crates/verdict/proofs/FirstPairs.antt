@@ -7,20 +7,21 @@ use lib.ListN.{length}
 use lib.IntN.{ℤ, pos, _-ℤ_}
 use Rattle.space.specs.Vectors.{entries, dotOf, plusOf, minusOf}
 use Rattle.space.specs.Order.{Before, Forward, AtMost}
-use Rattle.boxes.specs.Boxes.{Box, In, Apart}
+use Rattle.space.specs.Boxes.{Box, In, Apart}
 use Rattle.space.proofs.Parts.{int, difference}
 use Rattle.space.proofs.VectorLaws.{plus-minus, minus-plus, minus-length, dot-minus, untwo}
 use Rattle.space.proofs.OrderLaws.{before-forward, forward-before}
-use Rattle.boxes.proofs.BoxLaws.{in-length}
+use Rattle.space.proofs.BoxLaws.{in-length}
 use Rattle.job.specs.declared.Job.{Job}
-use Rattle.mapping.specs.Mapping.{box, H, S, Stationary}
-use Rattle.mapping.specs.Collisions.{senders}
-use Rattle.mapping.specs.Searches.{Still, Meets, MeetsSome}
-use Rattle.verdict.specs.Rules.{Pair, SameCell, Meeting, MeetingSome}
-use Rattle.verdict.specs.Replies.{FirstPair}
+use Rattle.job.specs.Record.{box}
+use Rattle.verdict.specs.Mapping.{H, S, Stationary}
+use Rattle.verdict.specs.Collisions.{senders}
+use Rattle.verdict.specs.Walks.{Still, CollidesBy, CollidesBySome}
+use Rattle.verdict.specs.Rules.{Ordered, SameCell, Collides, CollidesSome}
+use Rattle.verdict.specs.Verdicts.{FirstPair}
 
 -- two points of a box are as long, and the second is the first and their difference
-module _ (B : Box) (p q : List ℤ) (w : Pair B p q) where
+module _ (B : Box) (p q : List ℤ) (w : Ordered B p q) where
   same-length : length p ≡ length q
   same-length = in-length B p (w .first) ∙ sym (in-length B q (w .second))
 
@@ -41,9 +42,9 @@ module _ (B : Box) (p q : List ℤ) (w : Pair B p q) where
 
 -- a property of pairs that is one of their difference
 pub record ByGap (P : List ℤ → List ℤ → Type 0) (B : Box) (Q : List ℤ → Type 0) : Type 1 where
-  pub pair : (p q : List ℤ) → P p q → Pair B p q
+  pub pair : (p q : List ℤ) → P p q → Ordered B p q
   pub gap : (p q : List ℤ) → P p q → Q (minusOf q p)
-  pub back : (p q : List ℤ) → Pair B p q → Q (minusOf q p) → P p q
+  pub back : (p q : List ℤ) → Ordered B p q → Q (minusOf q p) → P p q
 
 module _ {P : List ℤ → List ℤ → Type 0} {B : Box} {Q : List ℤ → Type 0} (by : ByGap P B Q) where
   -- no difference has it: no pair has
@@ -56,7 +57,7 @@ module _ {P : List ℤ → List ℤ → Type 0} {B : Box} {Q : List ℤ → Type
     gap-is : minusOf (plusOf r y) r ≡ y
     gap-is = minus-plus r y (in-length B r here ∙ sym (apart .long))
 
-    the-pair : Pair B r (plusOf r y)
+    the-pair : Ordered B r (plusOf r y)
     the-pair = record { first = here; second = there; order = forward-before r (plusOf r y) (subst Forward (sym gap-is) forward) }
 
     pub first-pair : FirstPair P r (plusOf r y)
@@ -65,7 +66,7 @@ module _ {P : List ℤ → List ℤ → Type 0} {B : Box} {Q : List ℤ → Type
         after : (p′ q′ : List ℤ) → P p′ q′ → Before (minusOf (plusOf r y) r) (minusOf q′ p′) ⊎ ((minusOf (plusOf r y) r ≡ minusOf q′ p′) × AtMost r p′)
         after p′ q′ h = go (least (minusOf q′ p′) (pair-forward B p′ q′ w) (pair-apart B p′ q′ w) (by .gap p′ q′ h))
           where
-            w : Pair B p′ q′
+            w : Ordered B p′ q′
             w = by .pair p′ q′ h
 
             go : AtMost y (minusOf q′ p′) → Before (minusOf (plusOf r y) r) (minusOf q′ p′) ⊎ ((minusOf (plusOf r y) r ≡ minusOf q′ p′) × AtMost r p′)
@@ -99,7 +100,7 @@ cell-by-gap j =
         let w = untwo s in
         (same-dot (entries (j .time)) p q e t, ap₂ (λ (x y : ℤ). x ∷ y ∷ []) (same-dot (entries (j .row0)) p q e (w .0)) (same-dot (entries (j .row1)) p q e (w .1)))
 
-    back : (p q : List ℤ) → Pair (box j) p q → Still j (minusOf q p) → SameCell j p q
+    back : (p q : List ℤ) → Ordered (box j) p q → Still j (minusOf q p) → SameCell j p q
     back p q w s =
         let e = same-length (box j) p q w in
         let t = untwo (s .1) in
@@ -110,13 +111,13 @@ cell-by-gap j =
         }
 
 -- two tokens meet by their difference
-pub meets-meeting : (j : Job) (s : ℕ) (p q : List ℤ) (f : ℤ) → (Stationary j s → ⊥) → Pair (senders j s) p q → Meets j s (minusOf q p) f → Meeting j s p q f
+pub meets-meeting : (j : Job) (s : ℕ) (p q : List ℤ) (f : ℤ) → (Stationary j s → ⊥) → Ordered (senders j s) p q → CollidesBy j s (minusOf q p) f → Collides j s p q f
 meets-meeting j s p q f m w h = record { moving = m; pair = w; place = h .place; time = h .time; collide = h .collide }
 
-meeting-meets : (j : Job) (s : ℕ) (p q : List ℤ) (f : ℤ) → Meeting j s p q f → Meets j s (minusOf q p) f
+meeting-meets : (j : Job) (s : ℕ) (p q : List ℤ) (f : ℤ) → Collides j s p q f → CollidesBy j s (minusOf q p) f
 meeting-meets j s p q f h = record { place = h .place; time = h .time; collide = h .collide }
 
-pub link-by-gap : (j : Job) (s : ℕ) → (Stationary j s → ⊥) → ByGap (MeetingSome j s) (senders j s) (MeetsSome j s)
+pub link-by-gap : (j : Job) (s : ℕ) → (Stationary j s → ⊥) → ByGap (CollidesSome j s) (senders j s) (CollidesBySome j s)
 link-by-gap j s m =
     record {
       pair = λ p q h. h .1 .pair;

@@ -2,3 +2,8 @@ pub mod Unique
 pub mod Accepted
 pub mod FirstPairs
 pub mod SizeLaws
+pub mod Courses
+pub mod Fits
+pub mod Gaps
+pub mod Meetings
+pub mod OneAnswer

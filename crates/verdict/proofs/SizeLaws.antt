@@ -8,18 +8,19 @@ use lib.ListN.{length}
 use lib.IntN.{ℤ, pos, natAbs}
 use Rattle.space.specs.Numbers.{up, Size}
 use Rattle.space.specs.Vectors.{Sized, entries}
-use Rattle.boxes.specs.Boxes.{across, countOf, leastOf, greatestOf, reach}
+use Rattle.space.specs.Boxes.{across, countOf, leastOf, greatestOf, reach}
 use Rattle.space.proofs.Parts.{int}
 use Rattle.space.proofs.Ints.{natAbs-quot, quot-up}
 use Rattle.space.proofs.VectorLaws.{dot-size, sized-up}
-use Rattle.boxes.proofs.BoxLaws.{sides-sized, across-size}
+use Rattle.space.proofs.BoxLaws.{sides-sized, across-size}
 use Rattle.job.specs.declared.Job.{Job}
 use Rattle.job.specs.Limits.{Acceptable}
-use Rattle.mapping.specs.Mapping.{along, H, hops, delay, delays, box}
+use Rattle.job.specs.Record.{along, box}
+use Rattle.verdict.specs.Mapping.{H, hops, delay, delays}
 use Rattle.verdict.specs.Rules.{Ahead}
 use Rattle.job.proofs.Accepting.{stream-sound, time-sized, low-sized, high-sized, solid}
-use Rattle.boxes.proofs.ExtremeLaws.{least-is, greatest-is, ends-small}
-use Rattle.mapping.specs.Frames.{cells}
+use Rattle.space.proofs.ExtremeLaws.{least-is, greatest-is, ends-small}
+use Rattle.verdict.specs.Extents.{cells}
 use native.Mathlib.Omega.{arith}
 
 -- ---- the reach of a row of an acceptable job

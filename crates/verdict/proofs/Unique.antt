@@ -15,12 +15,12 @@ use Rattle.space.proofs.OrderLaws.{before-irreflexive, before-trans, at-most-bo
 use Rattle.job.specs.declared.Job.{Job}
 use Rattle.job.specs.Limits.{limits}
 use Rattle.job.proofs.Refusing.{first-unique, none-refuses}
-use Rattle.mapping.proofs.OneAnswer.{one-hops}
-use Rattle.verdict.specs.Rules.{Meeting, MeetingSome, Kept, Keeps, Sizes}
-use Rattle.verdict.specs.Replies.{Lowest, FirstPair, turn, Claims, Says}
-use Rattle.verdict.specs.declared.Size.{Size}
+use Rattle.verdict.proofs.OneAnswer.{one-hops}
+use Rattle.verdict.specs.Rules.{Collides, CollidesSome, Kept, Keeps, ExtentOf}
+use Rattle.verdict.specs.Verdicts.{Lowest, FirstPair, turn, Claims, Says}
+use Rattle.verdict.specs.declared.Extent.{Extent}
 use Rattle.verdict.specs.declared.Pair.{Pair}
-use Rattle.verdict.specs.declared.Clash.{Clash}
+use Rattle.verdict.specs.declared.Collision.{Collision}
 use Rattle.verdict.specs.declared.Verdict.{Verdict}
 use Rattle.verdict.specs.declared.Verdict.the-variants.{Accepted, Limit, Precedence, Hop, Cell, Link}
 
@@ -74,27 +74,27 @@ pair-unique c c′ f f′ = made (c .p) (c .q) (c′ .p) (c′ .q) (vector-of (s
     made p q p′ q′ e h = rw (e, h)
 
 -- the hops of two points are one number
-hops-unique : (j : Job) (s : ℕ) (p q : List ℤ) (f f′ : ℤ) → Meeting j s p q f → Meeting j s p q f′ → f ≡ f′
+hops-unique : (j : Job) (s : ℕ) (p q : List ℤ) (f f′ : ℤ) → Collides j s p q f → Collides j s p q f′ → f ≡ f′
 hops-unique j s p q f f′ m n = one-hops j s (m .moving) (minusOf q p) f f′ (m .place) (n .place)
 
-link-unique : (j : Job) (c c′ : Clash) → Claims j (Link c) → Claims j (Link c′) → _≡_ {A = Verdict} (Link c) (Link c′)
+link-unique : (j : Job) (c c′ : Collision) → Claims j (Link c) → Claims j (Link c′) → _≡_ {A = Verdict} (Link c) (Link c′)
 link-unique j c c′ p q = made (c .stream) (c′ .stream) (c .pair) (c′ .pair) (c .hops) (c′ .hops) (lowest-unique (p .0) (q .0)) (p .1 .0) (q .1 .0) (p .1 .1) (q .1 .1)
   where
-    made : (s s′ : ℕ) (r r′ : Pair) (f f′ : ℤ) → s ≡ s′ → FirstPair (MeetingSome j s) (entries (r .p)) (entries (r .q)) → FirstPair (MeetingSome j s′) (entries (r′ .p)) (entries (r′ .q)) → Meeting j s (entries (r .p)) (entries (r .q)) f → Meeting j s′ (entries (r′ .p)) (entries (r′ .q)) f′ → _≡_ {A = Verdict} (Link (record { stream = s; pair = r; hops = f })) (Link (record { stream = s′; pair = r′; hops = f′ }))
+    made : (s s′ : ℕ) (r r′ : Pair) (f f′ : ℤ) → s ≡ s′ → FirstPair (CollidesSome j s) (entries (r .p)) (entries (r .q)) → FirstPair (CollidesSome j s′) (entries (r′ .p)) (entries (r′ .q)) → Collides j s (entries (r .p)) (entries (r .q)) f → Collides j s′ (entries (r′ .p)) (entries (r′ .q)) f′ → _≡_ {A = Verdict} (Link (record { stream = s; pair = r; hops = f })) (Link (record { stream = s′; pair = r′; hops = f′ }))
     made s s′ r r′ f f′ e a b m n =
-        let b′ = subst (λ (s : ℕ). FirstPair (MeetingSome j s) (entries (r′ .p)) (entries (r′ .q))) (sym e) b in
-        let n′ = subst (λ (s : ℕ). Meeting j s (entries (r′ .p)) (entries (r′ .q)) f′) (sym e) n in
+        let b′ = subst (λ (s : ℕ). FirstPair (CollidesSome j s) (entries (r′ .p)) (entries (r′ .q))) (sym e) b in
+        let n′ = subst (λ (s : ℕ). Collides j s (entries (r′ .p)) (entries (r′ .q)) f′) (sym e) n in
         let u = pair-unique r r′ a b′ in
-        let n″ = subst (λ (r : Pair). Meeting j s (entries (r .p)) (entries (r .q)) f′) (sym u) n′ in
+        let n″ = subst (λ (r : Pair). Collides j s (entries (r .p)) (entries (r .q)) f′) (sym u) n′ in
         let h = hops-unique j s (entries (r .p)) (entries (r .q)) f f′ m n″ in
         rw (e, u, h)
 
 -- the sizes
-sizes-unique : (j : Job) (z z′ : Size) → Sizes j z → Sizes j z′ → z ≡ z′
+sizes-unique : (j : Job) (z z′ : Extent) → ExtentOf j z → ExtentOf j z′ → z ≡ z′
 sizes-unique j z z′ p q =
     made (z .cells) (z .ticks) (z .room) (z′ .cells) (z′ .ticks) (z′ .room) (p .cells ∙ sym (q .cells)) (p .ticks ∙ sym (q .ticks)) (p .room ∙ sym (q .room))
   where
-    made : (a b c a′ b′ c′ : ℕ) → a ≡ a′ → b ≡ b′ → c ≡ c′ → _≡_ {A = Size} (record { cells = a; ticks = b; room = c }) (record { cells = a′; ticks = b′; room = c′ })
+    made : (a b c a′ b′ c′ : ℕ) → a ≡ a′ → b ≡ b′ → c ≡ c′ → _≡_ {A = Extent} (record { cells = a; ticks = b; room = c }) (record { cells = a′; ticks = b′; room = c′ })
     made a b c a′ b′ c′ e f h = rw (e, f, h)
 
 same : (j : Job) (v w : Verdict) → turn v ≡ turn w → Claims j v → Claims j w → v ≡ w

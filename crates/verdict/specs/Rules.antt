@@ -6,13 +6,14 @@ use lib.IntN.{ℤ, pos, natAbs, _*ℤ_}
 use lib.Signed.{_≤ℤ_}
 use Rattle.space.specs.Vectors.{minusOf, timesOf}
 use Rattle.space.specs.Order.{Before}
-use Rattle.boxes.specs.Boxes.{Box, In}
+use Rattle.space.specs.Boxes.{Box, In}
 use Rattle.job.specs.declared.Job.{Job}
 use Rattle.job.specs.Limits.{Acceptable}
-use Rattle.mapping.specs.Mapping.{box, stream, along, H, S, g, Stationary, hop, delay}
-use Rattle.mapping.specs.Collisions.{senders, Collide}
-use Rattle.verdict.specs.declared.Size.{Size}
-use Rattle.mapping.specs.Frames.{cells, ticks, room}
+use Rattle.job.specs.Record.{box, stream, along}
+use Rattle.verdict.specs.Mapping.{H, S, g, Stationary, hop, delay}
+use Rattle.verdict.specs.Collisions.{senders, IsCollision}
+use Rattle.verdict.specs.declared.Extent.{Extent}
+use Rattle.verdict.specs.Extents.{cells, ticks, room}
 
 -- 'Precedence: Hd ≥ 1 for every stream'
 abbrev pub Ahead : Job → ℕ → Type 0
@@ -23,31 +24,31 @@ abbrev pub Even : Job → ℕ → Type 0
 Even j s = (Stationary j s → ⊥) → g j s ∣ natAbs (H j (along j s))
 
 -- points p, q of the box, p before q in box order
-pub record Pair (B : Box) (p q : List ℤ) : Type 0 where
+pub record Ordered (B : Box) (p q : List ℤ) : Type 0 where
   pub first : In B p
   pub second : In B q
   pub order : Before p q
 
 -- 'Cell: no two different box points have equal H and equal S'
 pub record SameCell (j : Job) (p q : List ℤ) : Type 0 where
-  pub pair : Pair (box j) p q
+  pub pair : Ordered (box j) p q
   pub time : H j p ≡ H j q
   pub place : S j p ≡ S j q
 
 -- 'Link, only where Sd is not 0. Take points p, q, p before q in box order, y = q - p, and suppose a whole number f has Sy = f·e and Hy = f·w'
-pub record Meeting (j : Job) (s : ℕ) (p q : List ℤ) (f : ℤ) : Type 0 where
+pub record Collides (j : Job) (s : ℕ) (p q : List ℤ) (f : ℤ) : Type 0 where
   pub moving : Stationary j s → ⊥
-  pub pair : Pair (senders j s) p q
+  pub pair : Ordered (senders j s) p q
   pub place : S j (minusOf q p) ≡ timesOf f (hop j s)
   pub time : H j (minusOf q p) ≡ f *ℤ delay j s
-  pub collide : Collide (stream j s .kind) (along j s) (g j s) (minusOf q p) f
+  pub collide : IsCollision (stream j s .kind) (along j s) (g j s) (minusOf q p) f
 
 -- two tokens of the stream from p and q meet; and that no tokens of it do
-abbrev pub MeetingSome : Job → ℕ → List ℤ → List ℤ → Type 0
-MeetingSome j s p q = (f : ℤ) × Meeting j s p q f
+abbrev pub CollidesSome : Job → ℕ → List ℤ → List ℤ → Type 0
+CollidesSome j s p q = (f : ℤ) × Collides j s p q f
 
 abbrev pub Clear : Job → ℕ → Type 0
-Clear j s = (p q : List ℤ) (f : ℤ) → Meeting j s p q f → ⊥
+Clear j s = (p q : List ℤ) (f : ℤ) → Collides j s p q f → ⊥
 
 -- of every stream
 abbrev pub All : (Job → ℕ → Type 0) → Job → Type 0
@@ -67,7 +68,7 @@ Keeps j zero = Unit {0}
 Keeps j (suc n) = Keeps j n × Kept j n
 
 -- cells, ticks and room of the job's array
-pub record Sizes (j : Job) (z : Size) : Type 0 where
+pub record ExtentOf (j : Job) (z : Extent) : Type 0 where
   pub cells : z .cells ≡ cells j
   pub ticks : z .ticks ≡ ticks j
   pub room : z .room ≡ room j

@@ -6,30 +6,30 @@ use lib.IntN.{ℤ}
 use Rattle.space.specs.Vectors.{entries}
 use Rattle.job.specs.declared.Job.{Job}
 use Rattle.verdict.specs.Rules.{SameCell, Clear, All}
-use Rattle.verdict.specs.Replies.{Lowest, FirstPair, Clashes}
-use Rattle.verdict.specs.declared.rules.Broken.{Broken}
-use Rattle.verdict.specs.declared.rules.Broken.the-variants as Broken
-use Rattle.verdict.specs.declared.rules.Crowd.{Crowd}
-use Rattle.verdict.specs.declared.rules.Crowd.the-variants as Crowd
-use Rattle.verdict.specs.declared.rules.Jam.{Jam}
-use Rattle.verdict.specs.declared.rules.Jam.the-variants as Jam
+use Rattle.verdict.specs.Verdicts.{Lowest, FirstPair, FirstCollision}
+use Rattle.verdict.specs.declared.rules.FoundStream.{FoundStream}
+use Rattle.verdict.specs.declared.rules.FoundStream.the-variants as FoundStream
+use Rattle.verdict.specs.declared.rules.FoundPair.{FoundPair}
+use Rattle.verdict.specs.declared.rules.FoundPair.the-variants as FoundPair
+use Rattle.verdict.specs.declared.rules.FoundCollision.{FoundCollision}
+use Rattle.verdict.specs.declared.rules.FoundCollision.the-variants as FoundCollision
 
 -- the lowest stream that breaks P, or none
-abbrev pub Finds : (ℕ → Type 0) → ℕ → Broken → Type 0
-Finds P m (Broken.At s) = Lowest P m s
-Finds P m Broken.Nowhere = (s : ℕ) → s < m → P s
+abbrev pub FindsStream : (ℕ → Type 0) → ℕ → FoundStream → Type 0
+FindsStream P m (FoundStream.At s) = Lowest P m s
+FindsStream P m FoundStream.Nowhere = (s : ℕ) → s < m → P s
 
 -- the first pair of points in one cell at one tick
-abbrev pub Finds-crowd : Job → Crowd → Type 0
-Finds-crowd j (Crowd.At c) = FirstPair (SameCell j) (entries (c .p)) (entries (c .q))
-Finds-crowd j Crowd.Nowhere = (p q : List ℤ) → SameCell j p q → ⊥
+abbrev pub FindsPair : Job → FoundPair → Type 0
+FindsPair j (FoundPair.At c) = FirstPair (SameCell j) (entries (c .p)) (entries (c .q))
+FindsPair j FoundPair.Nowhere = (p q : List ℤ) → SameCell j p q → ⊥
 
 -- the first pair of a stream whose tokens meet
-abbrev pub Finds-jam : Job → ℕ → Jam → Type 0
-Finds-jam j s (Jam.At c) = (c .stream ≡ s) × Clashes j c
-Finds-jam j s Jam.Nowhere = Clear j s
+abbrev pub FindsCollisionOn : Job → ℕ → FoundCollision → Type 0
+FindsCollisionOn j s (FoundCollision.At c) = (c .stream ≡ s) × FirstCollision j c
+FindsCollisionOn j s FoundCollision.Nowhere = Clear j s
 
 -- the same over all streams
-abbrev pub Finds-jams : Job → Jam → Type 0
-Finds-jams j (Jam.At c) = Lowest (Clear j) (j .m) (c .stream) × Clashes j c
-Finds-jams j Jam.Nowhere = All Clear j
+abbrev pub FindsCollision : Job → FoundCollision → Type 0
+FindsCollision j (FoundCollision.At c) = Lowest (Clear j) (j .m) (c .stream) × FirstCollision j c
+FindsCollision j FoundCollision.Nowhere = All Clear j

@@ -1,20 +1,22 @@
 // The verdict on a job: accepted with its sizes, or the first broken rule with its stream and its first pair.
+pub mod course;
 mod rules;
+pub mod walk;
 
-use crate::rules::Broken;
-use crate::rules::Crowd;
-use crate::rules::Jam;
+use crate::rules::FoundCollision;
+use crate::rules::FoundPair;
+use crate::rules::FoundStream;
 use job::Job;
 use space::Vector;
 ghost use mathlib.Core.Path.{_≡_};
 ghost use Prim.Native.Nat.{_<_, _≤_};
 ghost use Rattle.job.specs.Limits.{Acceptable};
-ghost use Rattle.mapping.specs.Mapping.{delays};
-ghost use Rattle.verdict.specs.Rules.{Ahead, All, Sizes};
-ghost use Rattle.verdict.specs.Replies.{Says};
+ghost use Rattle.verdict.specs.Mapping.{delays};
+ghost use Rattle.verdict.specs.Rules.{Ahead, All, ExtentOf};
+ghost use Rattle.verdict.specs.Verdicts.{Says};
 
 // How many cells and ticks an accepted array has, and how many register places.
-pub struct Size {
+pub struct Extent {
     pub cells: u64,
     pub ticks: u64,
     pub room: u64,
@@ -27,43 +29,43 @@ pub struct Pair {
 }
 
 // Two tokens of a stream that meet: their points, and how many hops they are apart.
-pub struct Clash {
+pub struct Collision {
     pub stream: u8,
     pub pair: Pair,
     pub hops: i64,
 }
 
 pub enum Verdict {
-    Accepted(Size),
+    Accepted(Extent),
     Limit(u8),
     Precedence(u8),
     Hop(u8),
     Cell(Pair),
-    Link(Clash),
+    Link(Collision),
 }
 
 // The verdict on a record.
 pub fn verdict_of(j: Job) -> Verdict
     ensures { λ r. ⌜ Says j r ⌝ }
 {
-    let number = limits::number(j);
+    let number = job::limits::number(j);
     if number != 0 {
         return Verdict::Limit(number);
     }
     let late = crate::rules::late(j);
-    if let Broken::At(s) = late {
+    if let FoundStream::At(s) = late {
         return Verdict::Precedence(s);
     }
     let uneven = crate::rules::uneven(j);
-    if let Broken::At(s) = uneven {
+    if let FoundStream::At(s) = uneven {
         return Verdict::Hop(s);
     }
-    let crowded = crate::rules::crowded(j);
-    if let Crowd::At(c) = crowded {
+    let shared_cell = crate::rules::shared_cell(j);
+    if let FoundPair::At(c) = shared_cell {
         return Verdict::Cell(c);
     }
-    let jam = crate::rules::jams(j);
-    if let Jam::At(c) = jam {
+    let jam = crate::rules::first_collision(j);
+    if let FoundCollision::At(c) = jam {
         return Verdict::Link(c);
     }
     Verdict::Accepted(sizes(j))
@@ -79,25 +81,25 @@ fn all_delays(j: Job) -> u64
     let mut s: u8 = 0;
     let mut sum: u64 = 0;
     while s < m {
-        let c = mapping::course::course_of(j, s);
+        let c = crate::course::course_of(j, s);
         let unit = c.unit;
-        sum += divisors::divisor::size(unit.x0);
+        sum += space::divisor::size(unit.x0);
         s += 1;
     }
     sum
 }
 
 // Cells, ticks and room of a job that keeps precedence.
-fn sizes(j: Job) -> Size
+fn sizes(j: Job) -> Extent
     requires { ⌜ Acceptable j × All Ahead j ⌝ }
-    ensures { λ r. ⌜ Sizes j r ⌝ }
+    ensures { λ r. ⌜ ExtentOf j r ⌝ }
 {
     let b = j.bounds;
-    let rows = boxes::reach_of(j.row0, b);
-    let columns = boxes::reach_of(j.row1, b);
-    let clock = boxes::reach_of(j.time, b);
+    let rows = space::boxes::reach_of(j.row0, b);
+    let columns = space::boxes::reach_of(j.row1, b);
+    let clock = space::boxes::reach_of(j.time, b);
     let cells = rows.count * columns.count;
-    Size {
+    Extent {
         cells,
         ticks: clock.count,
         room: cells * all_delays(j),

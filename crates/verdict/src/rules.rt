@@ -1,94 +1,94 @@
 // The rules, each over all streams or all pairs.
-use crate::Clash;
+use crate::Collision;
 use crate::Pair;
+use crate::walk::FoundGap;
+use crate::walk::FoundLink;
 use job::Job;
-use mapping::walk::FirstLink;
-use mapping::walk::Gap;
 ghost use Prim.Native.Nat.{_<_};
 ghost use Rattle.space.specs.Numbers.{Tells};
 ghost use Rattle.job.specs.Limits.{Acceptable};
 ghost use Rattle.verdict.specs.Rules.{Ahead, Even};
-ghost use Rattle.verdict.specs.Searches.{Finds, Finds-crowd, Finds-jam, Finds-jams};
+ghost use Rattle.verdict.specs.Searches.{FindsStream, FindsPair, FindsCollisionOn, FindsCollision};
 
 // The lowest stream that breaks a rule, or none.
-pub enum Broken {
+pub enum FoundStream {
     At(u8),
     Nowhere,
 }
 
 // The first pair of points in one cell at one tick, or none.
-pub enum Crowd {
+pub enum FoundPair {
     At(Pair),
     Nowhere,
 }
 
 // The first pair of tokens that meet on a link, or none.
-pub enum Jam {
-    At(Clash),
+pub enum FoundCollision {
+    At(Collision),
     Nowhere,
 }
 
 // The lowest stream that breaks precedence.
-pub fn late(j: Job) -> Broken
+pub fn late(j: Job) -> FoundStream
     requires { ⌜ Acceptable j ⌝ }
-    ensures { λ r. ⌜ Finds (Ahead j) (j .m) r ⌝ }
+    ensures { λ r. ⌜ FindsStream (Ahead j) (j .m) r ⌝ }
 {
     let m = j.m;
     let mut s: u8 = 0;
     while s < m {
         if !is_ahead(j, s) {
-            return Broken::At(s);
+            return FoundStream::At(s);
         }
         s += 1;
     }
-    Broken::Nowhere
+    FoundStream::Nowhere
 }
 
 // The lowest stream that breaks the hop rule.
-pub fn uneven(j: Job) -> Broken
+pub fn uneven(j: Job) -> FoundStream
     requires { ⌜ Acceptable j ⌝ }
-    ensures { λ r. ⌜ Finds (Even j) (j .m) r ⌝ }
+    ensures { λ r. ⌜ FindsStream (Even j) (j .m) r ⌝ }
 {
     let m = j.m;
     let mut s: u8 = 0;
     while s < m {
         if !is_even(j, s) {
-            return Broken::At(s);
+            return FoundStream::At(s);
         }
         s += 1;
     }
-    Broken::Nowhere
+    FoundStream::Nowhere
 }
 
 // The first pair of points in one cell at one tick.
-pub fn crowded(j: Job) -> Crowd
+pub fn shared_cell(j: Job) -> FoundPair
     requires { ⌜ Acceptable j ⌝ }
-    ensures { λ r. ⌜ Finds-crowd j r ⌝ }
+    ensures { λ r. ⌜ FindsPair j r ⌝ }
 {
-    let gap = mapping::walk::cell_gap(j);
-    let Gap::At(y) = gap else {
-        return Crowd::Nowhere;
+    let gap = crate::walk::cell_gap(j);
+    let FoundGap::At(y) = gap else {
+        return FoundPair::Nowhere;
     };
-    let p = boxes::start(j.bounds, y);
+    let p = space::boxes::least_start(j.bounds, y);
     let q = space::plus(p, y);
-    Crowd::At(Pair { p, q })
+    FoundPair::At(Pair { p, q })
 }
 
 // The first pair of the lowest stream whose tokens meet.
-pub fn jams(j: Job) -> Jam
+pub fn first_collision(j: Job) -> FoundCollision
     requires { ⌜ Acceptable j ⌝ }
-    ensures { λ r. ⌜ Finds-jams j r ⌝ }
+    ensures { λ r. ⌜ FindsCollision j r ⌝ }
 {
     let m = j.m;
     let mut s: u8 = 0;
     while s < m {
-        let found = jam_of(j, s);
-        if let Jam::At(c) = found {
-            return Jam::At(c);
+        let found = collision_on(j, s);
+        if let FoundCollision::At(c) = found {
+            return FoundCollision::At(c);
         }
         s += 1;
     }
-    Jam::Nowhere
+    FoundCollision::Nowhere
 }
 
 // Is Hd at least 1?
@@ -107,33 +107,33 @@ fn is_even(j: Job, s: u8) -> bool
     requires { ⌜ Acceptable j × (s < j .m) ⌝ }
     ensures { λ r. ⌜ Tells (Even j s) r ⌝ }
 {
-    let course = mapping::course::course_of(j, s);
+    let course = crate::course::course_of(j, s);
     if course.g == 0 {
         return true;
     }
     let t = job::stream_at(j, s);
     let d = t.d;
     let h = j.time;
-    divisors::divisor::size(space::dot(h, d)) % course.g == 0
+    space::divisor::size(space::dot(h, d)) % course.g == 0
 }
 
 // The first pair of stream s whose tokens meet.
-fn jam_of(j: Job, s: u8) -> Jam
+fn collision_on(j: Job, s: u8) -> FoundCollision
     requires { ⌜ Acceptable j × (s < j .m) ⌝ }
-    ensures { λ r. ⌜ Finds-jam j s r ⌝ }
+    ensures { λ r. ⌜ FindsCollisionOn j s r ⌝ }
 {
-    let c = mapping::course::course_of(j, s);
+    let c = crate::course::course_of(j, s);
     if c.g == 0 {
-        return Jam::Nowhere;
+        return FoundCollision::Nowhere;
     }
-    let link = mapping::walk::first_link(j, s, c);
-    let FirstLink::At(found) = link else {
-        return Jam::Nowhere;
+    let link = crate::walk::link_gap(j, s, c);
+    let FoundLink::At(found) = link else {
+        return FoundCollision::Nowhere;
     };
     let y = found.gap;
-    let p = boxes::start(j.bounds, y);
+    let p = space::boxes::least_start(j.bounds, y);
     let q = space::plus(p, y);
-    Jam::At(Clash {
+    FoundCollision::At(Collision {
         stream: s,
         pair: Pair { p, q },
         hops: found.hops,

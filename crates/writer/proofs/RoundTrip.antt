@@ -9,8 +9,8 @@ use Rattle.job.proofs.Refusing.{none-refuses}
 use Rattle.layout.specs.Layout.{fileOf}
 use Rattle.layout.proofs.Injective.{file-length}
 use Rattle.reader.specs.Reading.{Reads}
-use Rattle.reader.specs.declared.Reply.{Reply}
-use Rattle.reader.specs.declared.Reply.the-variants as Reply
+use Rattle.reader.specs.declared.Reading.{Reading}
+use Rattle.reader.specs.declared.Reading.the-variants as Reading
 use Rattle.reader.proofs.Theorems.{reads-unique}
 use Rattle.writer.specs.declared.Wrote.{Wrote}
 use Rattle.writer.specs.declared.Wrote.the-variants.{Total, Refused, Short}
@@ -19,11 +19,11 @@ use Rattle.writer.specs.Writing.{Writes}
 use Rattle.writer.proofs.Theorems.{written}
 
 -- reading what was written gives the job, and no other reply
-pub written-read : (j : Job) (before after : List ℕ) (t : ℕ) (r : Reply) → Writes j before after (Total t) → Reads (take t after) r → r ≡ Reply.Job j
-written-read j before after t r w reads = reads-unique (take t after) r (Reply.Job j) reads (w .0, sym (written j before after t w .0))
+pub written-read : (j : Job) (before after : List ℕ) (t : ℕ) (r : Reading) → Writes j before after (Total t) → Reads (take t after) r → r ≡ Reading.Job j
+written-read j before after t r w reads = reads-unique (take t after) r (Reading.Job j) reads (w .0, sym (written j before after t w .0))
 
 -- writing what was read gives the bytes, wherever there is room for them
-pub read-written : (s : List ℕ) (j : Job) (before after : List ℕ) (r : Wrote) → Reads s (Reply.Job j) → length s ≤ length before → Writes j before after r → (r ≡ Total (length s)) × (after ≡ over s before)
+pub read-written : (s : List ℕ) (j : Job) (before after : List ℕ) (r : Wrote) → Reads s (Reading.Job j) → length s ≤ length before → Writes j before after r → (r ≡ Total (length s)) × (after ≡ over s before)
 read-written s j before after r reads room w = by r w
   where
     total : length s ≡ length (fileOf j)
@@ -36,5 +36,5 @@ read-written s j before after r reads room w = by r w
     by (Short t) w = let e = file-length j (reads .0 .shaped) in let h = total in absurd (omega arith)
 
 -- acceptable bytes have exactly one job
-pub one-job : (s : List ℕ) (j j′ : Job) → Reads s (Reply.Job j) → Reads s (Reply.Job j′) → j ≡ j′
-one-job s j j′ p q = let e = reads-unique s (Reply.Job j) (Reply.Job j′) p q in cc
+pub one-job : (s : List ℕ) (j j′ : Job) → Reads s (Reading.Job j) → Reads s (Reading.Job j′) → j ≡ j′
+one-job s j j′ p q = let e = reads-unique s (Reading.Job j) (Reading.Job j′) p q in cc

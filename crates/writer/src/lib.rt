@@ -39,7 +39,7 @@ pub fn answer_of(w: Wrote) -> Answer
 pub fn write(buf: &mut [u8], j: Job) -> Wrote
     ensures { λ r. ⌜ Writes j (now (buf .entry)) (now (buf .exit)) r ⌝ }
 {
-    let number = limits::number(j);
+    let number = job::limits::number(j);
     if number != 0 {
         return Wrote::Refused(number);
     }

@@ -4,7 +4,7 @@ use Prim.Native.Nat.{_-_}
 use native.Mathlib.Omega.{arith}
 use denote.Ref.{now}
 use Rattle.array.proofs.RunLaws.{Running, run-start, run-step, run-end}
-use Rattle.tick.proofs.StoreLaws.{roomy-as}
+use Rattle.array.proofs.StoreLaws.{roomy-as}
 use Rattle.array.proofs.all_ticks.Statement.{statement}
 use Rattle.array.proofs.all_ticks.Tie as tie
 

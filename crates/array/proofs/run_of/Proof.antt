@@ -4,16 +4,16 @@ use Prim.Native.Nat.{ℕ, _≤_}
 use lib.ListN.{length}
 use denote.Ref.{now}
 use borrow.Author.Needs.{needs}
-use Rattle.verdict.specs.Replies.{Says}
+use Rattle.verdict.specs.Verdicts.{Says}
 use Rattle.verdict.specs.declared.Verdict.the-variants.{Accepted}
 use Rattle.tables.proofs.TableLaws.{few-points}
-use Rattle.answers.specs.declared.Reply.the-variants.{Ticks}
-use Rattle.answers.specs.Answers.{runChecks, Lacks}
+use Rattle.checks.specs.declared.RunReply.the-variants.{Ticks}
+use Rattle.checks.specs.Answers.{runChecks, Lacks}
 use Rattle.array.specs.Runs.{cleared}
 use Rattle.array.proofs.RunLaws.{clear-size, ran-as}
 use Rattle.array.proofs.ReplyLaws.{tables-tabled, places-roomy}
 use Rattle.verdict.proofs.Accepted.{not-accepted, accepted-limits, accepted-ahead}
-use Rattle.answers.proofs.AnswerLaws.{passed, lacks-refuses}
+use Rattle.checks.proofs.AnswerLaws.{passed, lacks-refuses}
 use Rattle.array.proofs.run_of.Statement.{statement}
 use Rattle.array.proofs.run_of.Tie as tie
 

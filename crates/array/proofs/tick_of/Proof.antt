@@ -7,14 +7,14 @@ use denote.Ref.{now}
 use borrow.Author.Needs.{needs}
 use Rattle.job.specs.Refusals.{check, done}
 use Rattle.job.proofs.Refusing.{stop-first}
-use Rattle.verdict.specs.Replies.{Says}
+use Rattle.verdict.specs.Verdicts.{Says}
 use Rattle.verdict.specs.declared.Verdict.the-variants.{Accepted}
 use Rattle.tables.proofs.TableLaws.{few-points}
-use Rattle.answers.specs.declared.Reply.the-variants.{Ticks}
-use Rattle.answers.specs.Answers.{runChecks, tickChecks, Lacks}
+use Rattle.checks.specs.declared.RunReply.the-variants.{Ticks}
+use Rattle.checks.specs.Answers.{runChecks, tickChecks, Lacks}
 use Rattle.array.proofs.ReplyLaws.{tick-late, tick-taken, tables-tabled, places-roomy}
 use Rattle.verdict.proofs.Accepted.{not-accepted, accepted-limits, accepted-ahead}
-use Rattle.answers.proofs.AnswerLaws.{lacks-refuses}
+use Rattle.checks.proofs.AnswerLaws.{lacks-refuses}
 use Rattle.array.proofs.tick_of.Statement.{statement}
 use Rattle.array.proofs.tick_of.Tie as tie
 

@@ -6,8 +6,8 @@ use native.Mathlib.Omega.{arith}
 use lib.ListN.{length}
 use denote.Ref.{now}
 use borrow.Author.Needs.{needs}
-use Rattle.boxes.specs.Boxes.{backOf, foundOf}
-use Rattle.boxes.proofs.BackLaws.{back-below}
+use Rattle.space.specs.Boxes.{backOf, foundOf}
+use Rattle.space.proofs.BackLaws.{back-below}
 use Rattle.bands.specs.Bands.{rectangleOf, hopOf}
 use Rattle.bands.proofs.BandLaws.{its-place}
 use Rattle.bands.proofs.arriving.Statement.{statement}

@@ -10,12 +10,12 @@ use lib.IntN.{ℤ, pos, natAbs, _+ℤ_, _-ℤ_}
 use lib.Signed.{_≤ℤ_}
 use borrow.Author.Needs.{needs}
 use Rattle.space.specs.Numbers.{Size, Tells, steps, limit}
-use Rattle.boxes.specs.Boxes.{side, In, Solid, countOf, placeOf, backOf}
+use Rattle.space.specs.Boxes.{side, In, Solid, countOf, placeOf, backOf}
 use Rattle.space.proofs.Parts.{int, difference}
 use Rattle.space.proofs.Ints.{size-between}
 use Rattle.space.proofs.Machine.{Is, held, arg, add, sub, fit, read, as-held, held-size, cast-need}
-use Rattle.boxes.proofs.BoxLaws.{told-in, told-last, place-below}
-use Rattle.boxes.proofs.BackLaws.{back-told}
+use Rattle.space.proofs.BoxLaws.{told-in, told-last, place-below}
+use Rattle.space.proofs.BackLaws.{back-told}
 use Rattle.bands.specs.Bands.{rectangleOf, hopOf}
 use Rattle.bands.proofs.BandLaws.{columns-are, cell-back, cell-place}
 use Rattle.bands.proofs.behind.Statement.{statement}

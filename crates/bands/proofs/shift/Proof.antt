@@ -4,7 +4,7 @@ use Prim.Native.Nat.{ℕ, _+_, _*_, _-_, _<_}
 use native.Mathlib.Omega.{arith}
 use lib.ListN.{length}
 use denote.Ref.{now}
-use Rattle.boxes.specs.Boxes.{countOf}
+use Rattle.space.specs.Boxes.{countOf}
 use Rattle.bands.specs.Bands.{rectangleOf, Lent}
 use Rattle.bands.specs.Turns.{turnOf}
 use Rattle.bands.proofs.BandLaws.{turn-below, lent-as, its-place, Shifting, shift-start, shift-step, shift-end}

@@ -3,10 +3,10 @@ use mathlib.Core.Path.{refl, ap, ap₂, _∙_}
 use borrow.Author.Needs.{needs}
 use lib.IntN.{natAbs}
 use Rattle.space.specs.Vectors.{entries}
-use Rattle.boxes.specs.Boxes.{side}
+use Rattle.space.specs.Boxes.{side}
 use Rattle.space.proofs.VectorLaws.{two, unfour}
 use Rattle.job.proofs.Accepting.{row0-sized, row1-sized}
-use Rattle.mapping.proofs.Meetings.{unit-sized}
+use Rattle.verdict.proofs.Meetings.{unit-sized}
 use Rattle.verdict.proofs.SizeLaws.{delay-up, small-ends}
 use Rattle.space.proofs.Machine.{held-as}
 use Rattle.frame.proofs.band_of.Statement.{statement}

@@ -5,34 +5,34 @@ use native.Mathlib.Nat.{mul-le-mul, le-trans, le-of-eq, le-of-lt}
 use native.Mathlib.Omega.{arith}
 use Rattle.space.specs.Numbers.{difference, steps}
 use Rattle.space.specs.Vectors.{entries, dotOf, Sized}
-use Rattle.boxes.specs.Boxes.{pointOf, leastOf}
+use Rattle.space.specs.Boxes.{pointOf, leastOf}
 use Rattle.space.proofs.Machine.{fits-under, held-as}
 use Rattle.space.proofs.VectorLaws.{sized-up, unfour}
-use Rattle.boxes.proofs.BoxLaws.{steps-size}
-use Rattle.mapping.specs.Mapping.{box}
-use Rattle.mapping.specs.Courses.{placed}
+use Rattle.space.proofs.BoxLaws.{steps-size}
+use Rattle.job.specs.Record.{box}
+use Rattle.verdict.specs.Courses.{timeAndPlace}
 use Rattle.job.proofs.Accepting.{row0-sized, row1-sized}
-use Rattle.mapping.specs.Frames.{cellOf}
+use Rattle.frame.specs.Frames.{cellOf}
 use Rattle.frame.proofs.FrameLaws.{fits-limit, point-sized, product-sized, cell-below, cell-is, cells-small}
 use Rattle.verdict.proofs.SizeLaws.{small-ends, across-small}
 use Rattle.frame.proofs.cell_at.Statement.{statement}
 use Rattle.frame.proofs.cell_at.Tie as tie
 
-placed-requires : tie.Need-placed-requires
-placed-requires c κs =
+time-and-place-requires : tie.Need-time-and-place-requires
+time-and-place-requires c κs =
     let a = c .args in
     let p = c .pre in
     (p .0, subst (Sized difference) (sym (p .3)) (sized-up (omega arith) (point-sized (a .j) (p .0) (a .k) (p .2))))
 
 -- where the point is put
-put : (c : tie.After-placed) → entries (c .placed .result) ≡ placed (c .before .args .j) (pointOf (box (c .before .args .j)) (c .before .args .k))
-put c = c .placed .ensures ∙ ap (placed (c .before .args .j)) (c .before .pre .3)
+put : (c : tie.After-time-and-place) → entries (c .time-and-place .result) ≡ timeAndPlace (c .before .args .j) (pointOf (box (c .before .args .j)) (c .before .args .k))
+put c = c .time-and-place .ensures ∙ ap (timeAndPlace (c .before .args .j)) (c .before .pre .3)
 
 -- the steps to a product of the point with a place row
-first : (c : tie.After-placed) → c .placed .result .x1 ≡ dotOf (entries (c .before .args .j .row0)) (pointOf (box (c .before .args .j)) (c .before .args .k))
+first : (c : tie.After-time-and-place) → c .time-and-place .result .x1 ≡ dotOf (entries (c .before .args .j .row0)) (pointOf (box (c .before .args .j)) (c .before .args .k))
 first c = unfour (put c) .1
 
-second : (c : tie.After-placed) → c .placed .result .x2 ≡ dotOf (entries (c .before .args .j .row1)) (pointOf (box (c .before .args .j)) (c .before .args .k))
+second : (c : tie.After-time-and-place) → c .time-and-place .result .x2 ≡ dotOf (entries (c .before .args .j .row1)) (pointOf (box (c .before .args .j)) (c .before .args .k))
 second c = unfour (put c) .2
 
 steps-above-requires : tie.Need-steps-above-requires
@@ -92,4 +92,4 @@ returns c =
     (cell c, rw (cell c) (cell-below (a .j) (p .0) (a .k) (p .2)))
 
 pub cell-at-spec : {M : Type 1} → statement M
-cell-at-spec = tie.close (tie.spec placed-requires steps-above-requires mul-result steps-above-requires-2 add-result returns)
+cell-at-spec = tie.close (tie.spec time-and-place-requires steps-above-requires mul-result steps-above-requires-2 add-result returns)

@@ -5,13 +5,12 @@ use native.Mathlib.Omega.{arith}
 use lib.ListN.{length, getD, length-set}
 use lib.Seq.{getD-set-other}
 use Rattle.space.specs.Vectors.{entries}
-use Rattle.boxes.specs.Boxes.{pointOf, PointAt}
-use Rattle.mapping.specs.Mapping.{box}
-use Rattle.tables.specs.Tables.{points as pointsOf}
+use Rattle.space.specs.Boxes.{pointOf, PointAt}
+use Rattle.job.specs.Record.{box, points as pointsOf}
 use Rattle.tables.proofs.TableLaws.{few-points}
 use Rattle.job.proofs.Accepting.{walkable}
-use Rattle.boxes.proofs.BoxLaws.{stands-in}
-use Rattle.mapping.proofs.Fits.{some-point}
+use Rattle.space.proofs.BoxLaws.{stands-in}
+use Rattle.verdict.proofs.Fits.{some-point}
 use Rattle.frame.specs.Framing.{Timed}
 use Rattle.frame.proofs.FrameLaws.{timed-step}
 use Rattle.frame.proofs.fill_timetable.Statement.{statement}

@@ -3,11 +3,12 @@ use mathlib.Core.Path.{_≡_, refl, sym, ap, ap₂, subst, _∙_}
 use native.Mathlib.Omega.{arith}
 use Rattle.space.specs.Numbers.{limit, steps}
 use Rattle.space.specs.Vectors.{entries, dotOf, Sized}
-use Rattle.boxes.specs.Boxes.{pointOf}
+use Rattle.space.specs.Boxes.{pointOf}
 use Rattle.space.proofs.VectorLaws.{sized-up}
-use Rattle.mapping.specs.Mapping.{box, H}
+use Rattle.job.specs.Record.{box}
+use Rattle.verdict.specs.Mapping.{H}
 use Rattle.job.proofs.Accepting.{time-sized}
-use Rattle.mapping.specs.Frames.{tickOf}
+use Rattle.frame.specs.Frames.{tickOf}
 use Rattle.space.proofs.Machine.{held-as}
 use Rattle.frame.proofs.FrameLaws.{fits-limit, point-sized, product-sized}
 use Rattle.verdict.proofs.SizeLaws.{small-ends}

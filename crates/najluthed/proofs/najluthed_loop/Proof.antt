@@ -1,6 +1,6 @@
 use mathlib.Core.Path.{refl, subst}
 use borrow.Author.Needs.{needs}
-use Rattle.loops.specs.LoopBytes.{LoopsOf}
+use Rattle.array.specs.LoopBytes.{LoopsOf}
 use Rattle.najluthed.proofs.najluthed_loop.Statement.{statement}
 use Rattle.najluthed.proofs.najluthed_loop.Tie as tie
 

@@ -1,7 +1,7 @@
 use mathlib.Core.Path.{_∙_, refl, subst}
 use borrow.Author.Needs.{needs}
 use Rattle.space.proofs.Machine.{in-range, back}
-use Rattle.lookup.specs.Lookups.{LooksOf}
+use Rattle.array.specs.Lookups.{LooksOf}
 use Rattle.najluthed.proofs.najluthed_point.Statement.{statement}
 use Rattle.najluthed.proofs.najluthed_point.Tie as tie
 

@@ -3,12 +3,12 @@ use mathlib.Core.Path.{sym, ap, subst, _∙_}
 use borrow.Author.Needs.{needs}
 use Rattle.space.specs.Numbers.{difference}
 use Rattle.space.specs.Vectors.{entries, Sized}
-use Rattle.boxes.specs.Boxes.{backOf}
+use Rattle.space.specs.Boxes.{backOf}
 use Rattle.job.specs.declared.Stream.{Stream}
-use Rattle.mapping.specs.Mapping.{box}
+use Rattle.job.specs.Record.{box}
 use Rattle.job.proofs.Accepting.{walkable}
-use Rattle.boxes.proofs.BoxLaws.{stands-in}
-use Rattle.mapping.proofs.Fits.{along-sized}
+use Rattle.space.proofs.BoxLaws.{stands-in}
+use Rattle.verdict.proofs.Fits.{along-sized}
 use Rattle.tables.proofs.previous_at.Statement.{statement}
 use Rattle.tables.proofs.previous_at.Tie as tie
 

@@ -5,7 +5,7 @@ use native.Mathlib.Omega.{arith}
 use lib.ListN.{getD, set}
 use denote.Ref.{now}
 use Rattle.job.specs.declared.Stream.{Stream}
-use Rattle.tables.specs.Tables.{points}
+use Rattle.job.specs.Record.{points}
 use Rattle.cell.specs.Cells.{ruled, work}
 use Rattle.tables.specs.Columns.{Column}
 use Rattle.tables.proofs.TableLaws.{few-streams, few-points, sources, entry-in, place-as, column-start, column-step}

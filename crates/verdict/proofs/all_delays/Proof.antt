@@ -5,7 +5,7 @@ use native.Mathlib.Omega.{arith}
 use lib.IntN.{natAbs}
 use Rattle.space.proofs.Machine.{in-range, back}
 use Rattle.space.proofs.VectorLaws.{unfour}
-use Rattle.mapping.specs.Mapping.{delay, delays}
+use Rattle.verdict.specs.Mapping.{delay, delays}
 use Rattle.verdict.proofs.SizeLaws.{delay-up, delay-size, delays-next}
 use Rattle.verdict.proofs.all_delays.Statement.{statement}
 use Rattle.verdict.proofs.all_delays.Tie as tie

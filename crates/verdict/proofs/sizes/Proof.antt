@@ -8,7 +8,7 @@ use borrow.Author.Needs.{needs}
 use lib.IntN.{ℤ}
 use Rattle.space.specs.Numbers.{entry, coordinate}
 use Rattle.space.specs.Vectors.{entries, Sized}
-use Rattle.boxes.specs.Boxes.{Solid, boxOf}
+use Rattle.space.specs.Boxes.{Solid, boxOf}
 use Rattle.space.proofs.Machine.{fits-under}
 use Rattle.space.proofs.VectorLaws.{sized-up}
 use Rattle.job.specs.declared.Job.{Job}

@@ -1,7 +1,7 @@
 use mathlib.Core.Path.{_≡_, sym, ap}
 use borrow.Author.Needs.{needs}
 use Rattle.space.proofs.Machine.{in-range, back}
-use Rattle.verdict.specs.Replies.{numberOf, streamOf, hopsOf}
+use Rattle.verdict.specs.Verdicts.{numberOf, streamOf, hopsOf}
 use Rattle.replies.specs.Answers.{Answers}
 use Rattle.verdict.specs.declared.Verdict.{Verdict}
 use Rattle.replies.proofs.numbers.answer_of.Statement.{statement}

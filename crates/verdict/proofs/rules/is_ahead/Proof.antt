@@ -10,7 +10,7 @@ use Rattle.space.proofs.Machine.{held, in-range, back, tells-leZ}
 use Rattle.space.proofs.VectorLaws.{sized-up}
 use Rattle.job.specs.declared.Stream.{Stream}
 use Rattle.job.proofs.Accepting.{time-sized}
-use Rattle.mapping.proofs.Fits.{along-sized}
+use Rattle.verdict.proofs.Fits.{along-sized}
 use Rattle.verdict.proofs.rules.is_ahead.Statement.{statement}
 use Rattle.verdict.proofs.rules.is_ahead.Tie as tie
 

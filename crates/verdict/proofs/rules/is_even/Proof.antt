@@ -13,10 +13,11 @@ use Rattle.space.proofs.VectorLaws.{sized-up}
 use Rattle.space.proofs.Telling.{tells-as, tells-eq}
 use Rattle.job.specs.declared.Job.{Job}
 use Rattle.job.specs.declared.Stream.{Stream}
-use Rattle.mapping.specs.Mapping.{along, H, g}
-use Rattle.mapping.proofs.Courses.{none-stationary, stationary-none}
+use Rattle.job.specs.Record.{along}
+use Rattle.verdict.specs.Mapping.{H, g}
+use Rattle.verdict.proofs.Courses.{none-stationary, stationary-none}
 use Rattle.job.proofs.Accepting.{time-sized}
-use Rattle.mapping.proofs.Fits.{along-sized}
+use Rattle.verdict.proofs.Fits.{along-sized}
 use Rattle.verdict.specs.Rules.{Even}
 use Rattle.verdict.proofs.rules.is_even.Statement.{statement}
 use Rattle.verdict.proofs.rules.is_even.Tie as tie

@@ -1,0 +1,28 @@
+-- The reader's refusal, or the point of the job that it read.
+use mathlib.Core.Path.{refl, subst}
+use mathlib.Core.Logic.{inl, inr}
+use borrow.Author.Needs.{needs}
+use Rattle.reader.specs.Reading.{Reads}
+use Rattle.array.proofs.lookup.point_at_bytes.Statement.{statement}
+use Rattle.array.proofs.lookup.point_at_bytes.Tie as tie
+
+read-requires : tie.Need-read-requires
+read-requires c κs = search needs
+
+enum-known-read : tie.Need-enum-known-read
+enum-known-read c = search needs
+
+enum-known-read-2 : tie.Need-enum-known-read-2
+enum-known-read-2 c = search needs
+
+point-at-requires : tie.Need-point-at-requires
+point-at-requires c κs = search needs
+
+returns : tie.Need-returns
+returns c = inl (_, subst (Reads _) (c .before .read2 .given .1) (c .before .before .before .read .ensures), refl)
+
+returns-2 : tie.Need-returns-2
+returns-2 c = inr (_, subst (Reads _) (c .before .before .read3 .given .1) (c .before .before .before .before .read .ensures), c .point-at .ensures)
+
+pub point-at-bytes-spec : {M : Type 1} → statement M
+point-at-bytes-spec = tie.close (tie.spec read-requires enum-known-read enum-known-read-2 point-at-requires returns returns-2)

@@ -1,0 +1,98 @@
+// The plain loop nest of a job: points in box order.
+use job::Job;
+use space::Vector;
+use space::boxes::Found;
+ghost use mathlib.Core.Path.{_≡_};
+ghost use Prim.Native.Nat.{ℕ, _+_, _<_};
+ghost use lib.ListN.{getD};
+ghost use Rattle.space.specs.Vectors.{entries};
+ghost use Rattle.space.specs.Boxes.{pointOf};
+ghost use Rattle.job.specs.Record.{box};
+ghost use Rattle.array.specs.Loops.{incoming, Looped, Loops};
+ghost use Rattle.array.specs.LoopBytes.{LoopsOf};
+ghost use Rattle.tables.specs.Columns.{Ready};
+
+// What the loop answers: the point count, or the number of refusal.
+pub enum LoopReply {
+    Points(u64),
+    Refused(u8),
+}
+
+// The loop over the value table, with the input for the points that have no point before them.
+pub fn loop_of(j: Job, input: &[u32], values: &mut [u32]) -> LoopReply
+    ensures { λ r. ⌜ Loops j (now (input .entry)) (now (values .entry)) (now (values .exit)) r ⌝ }
+{
+    let number = job::limits::number(j);
+    if number != 0 {
+        return LoopReply::Refused(number);
+    }
+    let size = tables::size_of(j);
+    if !((input.len() == size) & (values.len() == size)) {
+        return LoopReply::Refused(13);
+    }
+    let points = space::boxes::count(j.bounds);
+    fill(j, input, &mut values[..], points);
+    LoopReply::Points(points)
+}
+
+// The loop of the job that the bytes are.
+pub fn loop_of_bytes(s: &[u8], input: &[u32], values: &mut [u32]) -> LoopReply
+    ensures { λ r. ⌜ LoopsOf (now (s .entry)) (now (input .entry)) (now (values .entry)) (now (values .exit)) r ⌝ }
+{
+    let read = reader::read(s);
+    match read {
+        reader::Reading::Refused(number) => LoopReply::Refused(number),
+        reader::Reading::Job(j) => loop_of(j, input, &mut values[..]),
+    }
+}
+
+// The incoming value of stream s at p, the point at place k.
+fn incoming_at(j: Job, input: &[u32], values: &[u32], points: u64, s: u8, p: Vector, k: u64) -> u32
+    requires { ⌜ Ready j (now input) points × Ready j (now values) points × (s < j .m) × (k < points) × (entries p ≡ pointOf (box j) k) ⌝ }
+    ensures { λ r. ⌜ r ≡ incoming j (now (input .entry)) (now (values .entry)) s k ⌝ }
+{
+    let found = tables::previous_at(j, s, p, k);
+    match found {
+        Found::At(q) => {
+            let i = tables::place_in_table(s, points, q);
+            values[i]
+        }
+        Found::Nowhere => {
+            let i = tables::place_in_table(s, points, k);
+            input[i]
+        }
+    }
+}
+
+// The incoming values of all streams at p, the point at place k.
+fn incoming_all(j: Job, input: &[u32], values: &[u32], points: u64, p: Vector, k: u64) -> [u32; 4]
+    requires { ⌜ Ready j (now input) points × Ready j (now values) points × (k < points) × (entries p ≡ pointOf (box j) k) ⌝ }
+    ensures { λ r. ⌜ ((s : ℕ) → s < j .m → getD r s 0 ≡ incoming j (now (input .entry)) (now (values .entry)) s k) ⌝ }
+{
+    let m = j.m;
+    let mut got = [0u32; 4];
+    let mut s: u8 = 0;
+    while s < m {
+        let v = incoming_at(j, input, values, points, s, p, k);
+        let i = s as usize;
+        got[i] = v;
+        s += 1;
+    }
+    got
+}
+
+// The work at every point, in box order.
+fn fill(j: Job, input: &[u32], values: &mut [u32], points: u64)
+    requires { ⌜ Ready j (now input) points × Ready j (now values) points ⌝ }
+    ensures { λ _. ⌜ Looped j (now (input .entry)) (now (values .exit)) ⌝ }
+{
+    let b = j.bounds;
+    let mut p = space::boxes::point(b, 0);
+    let mut k: u64 = 0;
+    while k < points {
+        let got = incoming_all(j, input, &values[..], points, p, k);
+        tables::put_column(j, &mut values[..], points, k, got);
+        p = space::boxes::next(b, p);
+        k += 1;
+    }
+}

@@ -1,0 +1,24 @@
+use mathlib.Core.Path.{ap}
+use Rattle.line.specs.Fields.{fieldsBytes}
+use Rattle.print.proofs.Putting.{none, put-as, fits-as}
+use Rattle.line.proofs.Rows.{fieldBytes, room-head, put-last, room-held, put-held}
+use Rattle.line.proofs.Coordinates.{shown, hidden}
+use borrow.Author.Needs.{needs}
+use Rattle.line.proofs.fields.put_coordinate.Statement.{statement}
+use Rattle.line.proofs.fields.put_coordinate.Tie as tie
+
+returns : tie.Need-returns
+unfolding fieldsBytes
+returns c = put-as (ap fieldsBytes (hidden _ _ _ _ (c .if1 .taken))) (none _ _)
+
+put-field-requires : tie.Need-put-field-requires
+put-field-requires c κs = room-held (fieldBytes _) _ (c .before .before .before .fits .x) (room-head _ _ _ (fits-as (ap fieldsBytes (shown _ _ _ _ (c .before .if1 .left))) (c .before .before .before .pre)))
+
+same-length : tie.Need-same-length
+same-length c = search needs
+
+returns-2 : tie.Need-returns-2
+returns-2 c = put-as (ap fieldsBytes (shown _ _ _ _ (c .before .before .before .before .if1 .left))) (put-last _ _ (put-held (fieldBytes _) _ (c .before .before .before .before .before .before .fits .x) (c .before .before .put-field .ensures)))
+
+pub put-coordinate-spec : {M : Type 1} → statement M
+put-coordinate-spec = tie.close (tie.spec returns put-field-requires same-length returns-2)

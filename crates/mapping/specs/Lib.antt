@@ -1,5 +1,0 @@
-pub mod Mapping
-pub mod Frames
-pub mod Collisions
-pub mod Courses
-pub mod Searches

@@ -1,0 +1,43 @@
+-- Entry by entry from the last two.
+use mathlib.Core.Path.{refl}
+use borrow.Author.Needs.{needs}
+use Rattle.space.proofs.Machine.{in-range, size-read}
+use Rattle.space.proofs.DivisorLaws.{gcd-more}
+use Rattle.space.proofs.divisor.gcd_of_entries.Statement.{statement}
+use Rattle.space.proofs.divisor.gcd_of_entries.Tie as tie
+
+size-requires : tie.Need-size-requires
+size-requires c κs = search needs
+
+size-requires-2 : tie.Need-size-requires-2
+size-requires-2 c κs = search needs
+
+gcd-requires : tie.Need-gcd-requires
+gcd-requires c κs = search needs
+
+size-requires-3 : tie.Need-size-requires-3
+size-requires-3 c κs = search needs
+
+gcd-requires-2 : tie.Need-gcd-requires-2
+gcd-requires-2 c κs = search needs
+
+size-requires-4 : tie.Need-size-requires-4
+size-requires-4 c κs = search needs
+
+gcd-requires-3 : tie.Need-gcd-requires-3
+gcd-requires-3 c κs = search needs
+
+returns : tie.Need-returns
+returns c =
+    let a = c .before .before .before .before .before .before .before .before .before .before .before .args .v in
+    let v = c .before .before .struct-told4 .given in
+    let e0 = size-read {z = a .x0} refl (in-range (v .0 .1)) (c .before .size4 .ensures) in
+    let e1 = size-read {z = a .x1} refl (in-range (v .1 .0 .1)) (c .before .before .before .before .size3 .ensures) in
+    let e2 = size-read {z = a .x2} refl (in-range (v .1 .1 .0 .1)) (c .before .before .before .before .before .before .before .before .before .size .ensures) in
+    let e3 = size-read {z = a .x3} refl (in-range (v .1 .1 .1 .0 .1)) (c .before .before .before .before .before .before .before .size2 .ensures) in
+    let g2 = rw (e2, e3) at (c .before .before .before .before .before .before .gcd .ensures) in
+    let g1 = gcd-more g2 (rw e1 at (c .before .before .before .gcd2 .ensures)) in
+    gcd-more g1 (rw e0 at (c .gcd3 .ensures))
+
+pub gcd-of-entries-spec : {M : Type 1} → statement M
+gcd-of-entries-spec = tie.close (tie.spec size-requires size-requires-2 gcd-requires size-requires-3 gcd-requires-2 size-requires-4 gcd-requires-3 returns)

@@ -1,0 +1,31 @@
+-- The reader's refusal has no row; else the row of the job that it read.
+use mathlib.Core.Path.{refl, subst}
+use mathlib.Core.Logic.{inl, inr}
+use borrow.Author.Needs.{needs}
+use Rattle.reader.specs.Reading.{Reads}
+use Rattle.tables.proofs.rows.row_of_bytes.Statement.{statement}
+use Rattle.tables.proofs.rows.row_of_bytes.Tie as tie
+
+read-requires : tie.Need-read-requires
+read-requires c κs = search needs
+
+enum-known-read : tie.Need-enum-known-read
+enum-known-read c = search needs
+
+slice-aggregate-result : tie.Need-slice-aggregate-result
+slice-aggregate-result c = search needs
+
+enum-known-read-2 : tie.Need-enum-known-read-2
+enum-known-read-2 c = search needs
+
+row-of-requires : tie.Need-row-of-requires
+row-of-requires c κs = search needs
+
+returns : tie.Need-returns
+returns c = inl (_, subst (Reads _) (c .before .before .read2 .given .1) (c .before .before .before .before .read .ensures), refl)
+
+returns-2 : tie.Need-returns-2
+returns-2 c = inr (_, subst (Reads _) (c .before .before .read3 .given .1) (c .before .before .before .before .read .ensures), c .row-of .ensures)
+
+pub row-of-bytes-spec : {M : Type 1} → statement M
+row-of-bytes-spec = tie.close (tie.spec read-requires enum-known-read slice-aggregate-result enum-known-read-2 row-of-requires returns returns-2)

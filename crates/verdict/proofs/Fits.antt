@@ -1,0 +1,33 @@
+-- What an acceptable job's numbers come to: small enough for every sum and product of the verdict.
+use mathlib.Core.List.{List}
+use Prim.Native.Nat.{ℕ, _<_}
+use native.Mathlib.Omega.{arith}
+use lib.IntN.{ℤ}
+use Rattle.space.specs.declared.Vector.{Vector}
+use Rattle.space.specs.Numbers.{Size, limit, difference}
+use Rattle.space.specs.Vectors.{entries, dotOf, Sized}
+use Rattle.space.specs.Boxes.{countOf}
+use Rattle.space.proofs.Ints.{size-up}
+use Rattle.space.proofs.VectorLaws.{sized-up, dot-size}
+use Rattle.job.specs.declared.Job.{Job}
+use Rattle.job.specs.Limits.{Acceptable}
+use Rattle.job.proofs.Accepting.{stream-sound, time-sized, row0-sized, row1-sized, solid}
+use Rattle.job.specs.Record.{along, box}
+use Rattle.verdict.specs.Courses.{timeAndPlace}
+use Rattle.space.proofs.BoxLaws.{solid-count}
+
+module _ (j : Job) (a : Acceptable j) where
+  pub along-sized : (s : ℕ) → s < j .m → Sized difference (along j s)
+  along-sized s h = sized-up (omega arith) (stream-sound j a s h .small)
+
+  -- Hx and Sx of a difference or of d
+  pub placed-sized : (x : List ℤ) → Sized difference x → Sized limit (timeAndPlace j x)
+  placed-sized x h =
+      record { each = (product (time-sized j a), (product (row0-sized j a), (product (row1-sized j a), (record { size = omega arith }, tt)))) }
+    where
+      product : {v : Vector} → Sized 127 (entries v) → Size limit (dotOf (entries v) x)
+      product p = size-up (omega arith) (dot-size p h)
+
+-- there is a first point
+pub some-point : {j : Job} → Acceptable j → 0 < countOf (box j)
+some-point {j} a = solid-count (box j) (solid j a)
