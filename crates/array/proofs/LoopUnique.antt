@@ -10,11 +10,9 @@ use Rattle.job.specs.declared.Job.{Job}
 use Rattle.job.specs.Refusals.{done, check, First}
 use Rattle.job.specs.Limits.{limits, Acceptable}
 use Rattle.job.proofs.Refusing.{first-unique, accepted, then-passed}
-use Rattle.reader.proofs.Theorems.{of-bytes-unique}
 use Rattle.job.specs.Record.{points}
 use Rattle.tables.specs.Tables.{entryFor, Long}
 use Rattle.array.specs.Loops.{Looped, loopChecks, Loops}
-use Rattle.array.specs.LoopBytes.{LoopsOf}
 use Rattle.array.specs.declared.loops.LoopReply.{LoopReply}
 use Rattle.array.specs.declared.loops.LoopReply.the-variants.{Points, Refused}
 use Rattle.array.proofs.LoopLaws.{incoming-from}
@@ -53,7 +51,3 @@ loops-unique j input before after after′ (Points n) (Refused r′) p q = absur
 loops-unique j input before after after′ (Refused r) (Points n′) p q = absurd (p .1 (first-unique (loopChecks j input before) r 0 (p .0) (q .0)))
 loops-unique j input before after after′ (Refused r) (Refused r′) p q =
     (ap Refused (first-unique (loopChecks j input before) r r′ (p .0) (q .0)), p .2 ∙ sym (q .2))
-
--- the same of bytes
-pub loops-of-unique : (s input before after after′ : List ℕ) (r r′ : LoopReply) → LoopsOf s input before after r → LoopsOf s input before after′ r′ → (r ≡ r′) × (after ≡ after′)
-loops-of-unique s input before after after′ r r′ = of-bytes-unique s (λ n p q. (p .0 ∙ sym (q .0), p .1 ∙ sym (q .1))) (λ (j : Job). loops-unique j input before after after′ r r′)

@@ -1,18 +1,16 @@
--- Two replies of a look-up that meet one statement are equal, on a job and on bytes.
+-- Two replies of a look-up that meet one statement are equal.
 use mathlib.Core.Path.{_≡_, refl, sym, ap, _∙_}
-use mathlib.Core.List.{List}
 use mathlib.Core.Option.{Option·some-injective, Option·some-ne-none}
 use Prim.Native.Nat.{ℕ}
 use Rattle.space.specs.Boxes.{pointOf}
 use Rattle.space.proofs.VectorLaws.{vector-of}
 use Rattle.job.specs.declared.Job.{Job}
-use Rattle.reader.proofs.Theorems.{of-bytes-unique}
 use Rattle.job.specs.Record.{box}
 use Rattle.verdict.proofs.Unique.{says-unique}
 use Rattle.verdict.proofs.Accepted.{no-refusal}
 use Rattle.array.specs.declared.lookup.Lookup.{Lookup}
 use Rattle.array.specs.declared.lookup.Lookup.the-variants as Look
-use Rattle.array.specs.Lookups.{Looks, LooksOf}
+use Rattle.array.specs.Lookups.{Looks}
 
 -- at most one reply of a look-up is right
 pub looks-unique : (j : Job) (t x : ℕ) (r r′ : Lookup) → Looks j t x r → Looks j t x r′ → r ≡ r′
@@ -25,8 +23,3 @@ looks-unique j t x Look.Nowhere (Look.Refused v) a b = absurd (no-refusal j (a .
 looks-unique j t x (Look.Refused u) (Look.At v) a b = absurd (no-refusal j (b .0) u (b .1) (a .0) (a .1))
 looks-unique j t x (Look.Refused u) Look.Nowhere a b = absurd (no-refusal j (b .0) u (b .1) (a .0) (a .1))
 looks-unique j t x (Look.Refused u) (Look.Refused v) a b = ap Look.Refused (says-unique j u v (a .0) (b .0))
-
--- ---- bytes
--- at most one reply of a look-up on bytes is right
-pub looks-of-unique : (s : List ℕ) (t x : ℕ) (r r′ : Lookup) → LooksOf s t x r → LooksOf s t x r′ → r ≡ r′
-looks-of-unique s t x r r′ a b = of-bytes-unique s (λ n e f. e ∙ sym f) (λ j. looks-unique j t x r r′) a b

@@ -1,4 +1,4 @@
--- Two replies that meet one statement are equal: of a run and a single tick, on a job and on bytes.
+-- Two replies that meet one statement are equal: of a run and of a single tick.
 use mathlib.Core.Path.{_≡_, sym, _∙_}
 use mathlib.Core.List.{List}
 use Prim.Native.Nat.{ℕ, _<_}
@@ -6,18 +6,16 @@ use lib.ListN.{length}
 use Rattle.job.specs.declared.Job.{Job}
 use Rattle.job.specs.Refusals.{done, check, First}
 use Rattle.job.proofs.Refusing.{then-passed}
-use Rattle.reader.proofs.Theorems.{of-bytes-unique}
 use Rattle.verdict.specs.Verdicts.{Says}
 use Rattle.verdict.specs.declared.Extent.{Extent}
-use Rattle.verdict.specs.declared.Verdict.the-variants.{Accepted, Limit}
+use Rattle.verdict.specs.declared.Verdict.the-variants.{Accepted}
 use Rattle.checks.specs.declared.RunReply.{RunReply}
-use Rattle.checks.specs.declared.RunReply.the-variants.{Refused}
 use Rattle.verdict.specs.Extents.{ticks, room}
 use Rattle.array.specs.Ticks.{Ticked}
 use Rattle.checks.specs.Answers.{runChecks, tickChecks}
 use Rattle.checks.proofs.AnswerLaws.{passed}
 use Rattle.checks.proofs.UniqueAnswers.{replies-unique}
-use Rattle.array.specs.Runs.{Ran, cleared, Runs, SingleTick, RepliesOf}
+use Rattle.array.specs.Runs.{Ran, cleared, Runs, SingleTick}
 use Rattle.array.proofs.ReplyLaws.{accepted-runs}
 use Rattle.array.proofs.UniqueTicks.{ticked-unique, ran-unique}
 
@@ -46,17 +44,3 @@ module _ (j : Job) (input values places v p v′ p′ : List ℕ) (r r′ : RunR
           let q = passed j _ _ _ z (then-passed (runChecks j (length input) (length values) (length places) z) (check 16 (t < z .ticks) done) f) in
           let e = ticked-unique j (accepted-runs s (q .1)) input t places values p v p′ v′ (q .0 .1) a b in
           (e .1, e .0)
-
--- ---- on bytes
-module _ (s input values places v p v′ p′ : List ℕ) (r r′ : RunReply) where
-  -- of a refused number
-  unread : (n : ℕ) → (r ≡ Refused (Limit n)) × ((v ≡ values) × (p ≡ places)) → (r′ ≡ Refused (Limit n)) × ((v′ ≡ values) × (p′ ≡ places)) → (r ≡ r′) × (v ≡ v′) × (p ≡ p′)
-  unread n a b = let e = neither (a .1) (b .1) in (a .0 ∙ sym (b .0), e .0, e .1)
-
-  -- of a run on bytes
-  pub runs-of-unique : RepliesOf s (λ (j : Job). Runs j input values places v p r) ((v ≡ values) × (p ≡ places)) r → RepliesOf s (λ (j : Job). Runs j input values places v′ p′ r′) ((v′ ≡ values) × (p′ ≡ places)) r′ → (r ≡ r′) × (v ≡ v′) × (p ≡ p′)
-  runs-of-unique a b = of-bytes-unique s unread (λ j. runs-unique j input values places v p v′ p′ r r′) a b
-
-  -- of a single tick on bytes
-  pub single-tick-of-unique : (t : ℕ) → RepliesOf s (λ (j : Job). SingleTick t j input values places v p r) ((v ≡ values) × (p ≡ places)) r → RepliesOf s (λ (j : Job). SingleTick t j input values places v′ p′ r′) ((v′ ≡ values) × (p′ ≡ places)) r′ → (r ≡ r′) × (v ≡ v′) × (p ≡ p′)
-  single-tick-of-unique t a b = of-bytes-unique s unread (λ j. single-tick-unique j input values places v p v′ p′ r r′ t) a b

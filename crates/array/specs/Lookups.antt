@@ -1,15 +1,13 @@
 -- The look-up of the point worked in a tick at a cell: the same that the tick works.
 use mathlib.Core.Path.{_≡_}
-use mathlib.Core.List.{List}
 use mathlib.Core.Option.{none, some}
 use Prim.Native.Nat.{ℕ}
 use Rattle.space.specs.Vectors.{entries}
 use Rattle.space.specs.Boxes.{pointOf}
 use Rattle.job.specs.declared.Job.{Job}
-use Rattle.reader.specs.Reading.{OfBytes}
 use Rattle.job.specs.Record.{box}
 use Rattle.verdict.specs.Verdicts.{Says, numberOf}
-use Rattle.verdict.specs.declared.Verdict.the-variants.{Accepted, Limit}
+use Rattle.verdict.specs.declared.Verdict.the-variants.{Accepted}
 use Rattle.verdict.specs.declared.Extent.{Extent}
 use Rattle.array.specs.Ticks.{pointAt}
 use Rattle.array.specs.declared.lookup.Lookup.{Lookup}
@@ -20,7 +18,3 @@ abbrev pub Looks : Job → ℕ → ℕ → Lookup → Type 0
 Looks j t x (At p) = (z : Extent) × Says j (Accepted z) × ((k : ℕ) × (pointAt j t x ≡ some k) × (entries p ≡ pointOf (box j) k))
 Looks j t x Nowhere = (z : Extent) × Says j (Accepted z) × (pointAt j t x ≡ none)
 Looks j t x (Refused v) = Says j v × (numberOf v ≡ 0 → ⊥)
-
--- the same of the job that the bytes are
-abbrev pub LooksOf : List ℕ → ℕ → ℕ → Lookup → Type 0
-LooksOf s t x r = OfBytes s (λ (number : ℕ). r ≡ Refused (Limit number)) (λ (j : Job). Looks j t x r)

@@ -4,13 +4,10 @@ use mathlib.Core.List.{List, _++_}
 use Prim.Native.Nat.{ℕ, zero, suc}
 use lib.ListN.{length, drop, replicate}
 use Rattle.job.specs.declared.Job.{Job}
-use Rattle.reader.specs.Reading.{OfBytes}
-use Rattle.verdict.specs.declared.Verdict.the-variants.{Limit}
 use Rattle.verdict.specs.Extents.{ticks, room}
 use Rattle.array.specs.Ticks.{Ticked}
 use Rattle.checks.specs.Answers.{runChecks, tickChecks, Replies}
 use Rattle.checks.specs.declared.RunReply.{RunReply}
-use Rattle.checks.specs.declared.RunReply.the-variants.{Refused}
 
 -- ticks 0 to n - 1 in order
 pub data Ran (j : Job) (input places values : List ℕ) : ℕ → List ℕ → List ℕ → Type 0 where
@@ -30,7 +27,3 @@ Runs j input values places values′ places′ r =
 abbrev pub SingleTick : ℕ → Job → List ℕ → List ℕ → List ℕ → List ℕ → List ℕ → RunReply → Type 0
 SingleTick t j input values places values′ places′ r =
     Replies j (tickChecks t j (length input) (length values) (length places)) (Ticked j input t places values places′ values′) ((values′ ≡ values) × (places′ ≡ places)) r
-
--- on job bytes: the reader's refusal with nothing altered, or what is said of the job that they are
-abbrev pub RepliesOf : List ℕ → (Job → Type 0) → Type 0 → RunReply → Type 0
-RepliesOf s Is Same r = OfBytes s (λ (number : ℕ). (r ≡ Refused (Limit number)) × Same) Is

@@ -14,7 +14,7 @@ ghost use Prim.Native.Nat.{_≤_};
 ghost use lib.ListN.{length};
 ghost use Rattle.job.specs.declared.Job.{Job};
 ghost use Rattle.job.specs.Record.{points as pointsOf};
-ghost use Rattle.array.specs.Runs.{Ran, cleared, Runs, SingleTick, RepliesOf};
+ghost use Rattle.array.specs.Runs.{Ran, cleared, Runs, SingleTick};
 ghost use Rattle.array.specs.Steps.{Tabled, Roomy};
 ghost use Rattle.frame.specs.Framing.{Timed};
 
@@ -74,34 +74,6 @@ pub fn tick_of(j: Job, t: u64, input: &[u32], values: &mut [u32], places: &mut [
         &mut places[..],
     );
     RunReply::Ticks(ticks)
-}
-
-// The run of the job that the bytes are.
-pub fn run_of_bytes(s: &[u8], input: &[u32], values: &mut [u32], places: &mut [u32]) -> RunReply
-    ensures { λ r. ⌜ RepliesOf (now (s .entry)) (λ (j : Job). Runs j (now (input .entry)) (now (values .entry)) (now (places .entry)) (now (values .exit)) (now (places .exit)) r) ((now (values .exit) ≡ now (values .entry)) × (now (places .exit) ≡ now (places .entry))) r ⌝ }
-{
-    let read = reader::read(s);
-    match read {
-        reader::Reading::Refused(number) => RunReply::Refused(Verdict::Limit(number)),
-        reader::Reading::Job(j) => run_of(j, input, &mut values[..], &mut places[..]),
-    }
-}
-
-// One tick of the job that the bytes are.
-pub fn tick_of_bytes(
-    s: &[u8],
-    t: u64,
-    input: &[u32],
-    values: &mut [u32],
-    places: &mut [u32],
-) -> RunReply
-    ensures { λ r. ⌜ RepliesOf (now (s .entry)) (λ (j : Job). SingleTick t j (now (input .entry)) (now (values .entry)) (now (places .entry)) (now (values .exit)) (now (places .exit)) r) ((now (values .exit) ≡ now (values .entry)) × (now (places .exit) ≡ now (places .entry))) r ⌝ }
-{
-    let read = reader::read(s);
-    match read {
-        reader::Reading::Refused(number) => RunReply::Refused(Verdict::Limit(number)),
-        reader::Reading::Job(j) => tick_of(j, t, input, &mut values[..], &mut places[..]),
-    }
 }
 
 // The first n places are cleared.

@@ -8,7 +8,8 @@ ghost use mathlib.Core.Path.{_≡_};
 ghost use Rattle.space.specs.Boxes.{foundOf};
 ghost use Rattle.job.specs.Limits.{Acceptable};
 ghost use Rattle.array.specs.Ticks.{pointAt};
-ghost use Rattle.array.specs.Lookups.{Looks, LooksOf};
+ghost use Rattle.verdict.specs.Verdicts.{Says};
+ghost use Rattle.array.specs.Lookups.{Looks};
 ghost use Rattle.frame.specs.Framing.{Framed};
 
 // The point, or that none is worked there and then, or the verdict's refusal.
@@ -22,25 +23,21 @@ pub enum Lookup {
 pub fn point_at(j: Job, t: u64, x: u64) -> Lookup
     ensures { λ r. ⌜ Looks j t x r ⌝ }
 {
-    let v = verdict::verdict_of(j);
-    let Verdict::Accepted(_size) = v else {
+    point_judged(j, verdict::verdict_of(j), t, x)
+}
+
+// The same of a job with its verdict.
+pub fn point_judged(j: Job, v: Verdict, t: u64, x: u64) -> Lookup
+    requires { ⌜ Says j v ⌝ }
+    ensures { λ r. ⌜ Looks j t x r ⌝ }
+{
+    let Verdict::Accepted(_extent) = v else {
         return Lookup::Refused(v);
     };
     let found = place_at(j, frame::frame_of(j), t, x);
     match found {
         Found::At(k) => Lookup::At(space::boxes::point(j.bounds, k)),
         Found::Nowhere => Lookup::Nowhere,
-    }
-}
-
-// The same of the job that the bytes are.
-pub fn point_at_bytes(s: &[u8], t: u64, x: u64) -> Lookup
-    ensures { λ r. ⌜ LooksOf (now (s .entry)) t x r ⌝ }
-{
-    let read = reader::read(s);
-    match read {
-        reader::Reading::Refused(number) => Lookup::Refused(Verdict::Limit(number)),
-        reader::Reading::Job(j) => point_at(j, t, x),
     }
 }
 

@@ -8,8 +8,8 @@ ghost use lib.ListN.{getD};
 ghost use Rattle.space.specs.Vectors.{entries};
 ghost use Rattle.space.specs.Boxes.{pointOf};
 ghost use Rattle.job.specs.Record.{box};
+ghost use Rattle.job.specs.Limits.{Acceptable};
 ghost use Rattle.array.specs.Loops.{incoming, Looped, Loops};
-ghost use Rattle.array.specs.LoopBytes.{LoopsOf};
 ghost use Rattle.tables.specs.Columns.{Ready};
 
 // What the loop answers: the point count, or the number of refusal.
@@ -26,6 +26,14 @@ pub fn loop_of(j: Job, input: &[u32], values: &mut [u32]) -> LoopReply
     if number != 0 {
         return LoopReply::Refused(number);
     }
+    loop_within(j, input, &mut values[..])
+}
+
+// The same of a job that is within the limits.
+pub fn loop_within(j: Job, input: &[u32], values: &mut [u32]) -> LoopReply
+    requires { ⌜ Acceptable j ⌝ }
+    ensures { λ r. ⌜ Loops j (now (input .entry)) (now (values .entry)) (now (values .exit)) r ⌝ }
+{
     let size = tables::size_of(j);
     if !((input.len() == size) & (values.len() == size)) {
         return LoopReply::Refused(13);
@@ -33,17 +41,6 @@ pub fn loop_of(j: Job, input: &[u32], values: &mut [u32]) -> LoopReply
     let points = space::boxes::count(j.bounds);
     fill(j, input, &mut values[..], points);
     LoopReply::Points(points)
-}
-
-// The loop of the job that the bytes are.
-pub fn loop_of_bytes(s: &[u8], input: &[u32], values: &mut [u32]) -> LoopReply
-    ensures { λ r. ⌜ LoopsOf (now (s .entry)) (now (input .entry)) (now (values .entry)) (now (values .exit)) r ⌝ }
-{
-    let read = reader::read(s);
-    match read {
-        reader::Reading::Refused(number) => LoopReply::Refused(number),
-        reader::Reading::Job(j) => loop_of(j, input, &mut values[..]),
-    }
 }
 
 // The incoming value of stream s at p, the point at place k.

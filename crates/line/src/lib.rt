@@ -2,12 +2,10 @@
 pub mod fields;
 
 use print::words::Word;
-use reader::Reading;
 use verdict::Verdict;
 ghost use Prim.Native.Nat.{_≤_};
 ghost use lib.ListN.{length};
 ghost use Rattle.line.specs.Lines.{lineOf, Writes};
-ghost use Rattle.line.specs.Bytes.{WritesOf};
 
 // No line is longer, each number counted at 21 bytes.
 pub const LONGEST: usize = 269;
@@ -22,16 +20,4 @@ pub fn write_line(out: &mut [u8], n: u8, v: Verdict) -> usize
     }
     let i = crate::fields::put_fields(out, 0, n, v);
     print::held::put_close(out, i, Word::Nothing, Word::End)
-}
-
-// Writes the line of the verdict on job bytes, as `write_line` does.
-pub fn line_of_bytes(out: &mut [u8], s: &[u8]) -> usize
-    ensures writes { λ r. ⌜ WritesOf (now (s .entry)) (now (out .entry)) r (now (out .exit)) ⌝ }
-    ensures inside { λ r. ⌜ r ≤ length (now (out .exit)) ⌝ }
-{
-    let read = reader::read(s);
-    match read {
-        Reading::Refused(number) => write_line(out, 0, Verdict::Limit(number)),
-        Reading::Job(j) => write_line(out, j.n, verdict::verdict_of(j)),
-    }
 }

@@ -17,7 +17,7 @@ use Rattle.layout.specs.Layout.{streamsFrom, matricesFrom, totalOf, headerOf, f
 use Rattle.layout.proofs.Entries.{sized-held}
 use Rattle.layout.proofs.Injective.{lays-unique, file-length}
 use Rattle.layout.proofs.Totals.{total-small}
-use Rattle.reader.specs.Reading.{fileChecks, Reads, OfBytes}
+use Rattle.reader.specs.Reading.{fileChecks, Reads}
 use Rattle.reader.specs.Pieces.{Headed}
 use Rattle.reader.specs.declared.Reading.{Reading}
 use Rattle.reader.specs.declared.Reading.the-variants as R
@@ -96,34 +96,3 @@ reads-unique s (R.Job j) (R.Job j′) p q = ap R.Job (lays-unique j j′ s (acce
 reads-unique s (R.Job j) (R.Refused r) p q = absurd (q .1 (first-unique (fileChecks s) r 0 (q .0) (acceptable-first j s (p .0) (p .1))))
 reads-unique s (R.Refused r) (R.Job j) p q = absurd (p .1 (first-unique (fileChecks s) r 0 (p .0) (acceptable-first j s (q .0) (q .1))))
 reads-unique s (R.Refused r) (R.Refused r′) p q = ap R.Refused (first-unique (fileChecks s) r r′ (p .0) (q .0))
-
--- what is said of bytes is said once: of the number that refuses them, or of the job that they are
-module _ (s : List ℕ) {Goal : Type 0} {No No′ : ℕ → Type 0} {Yes Yes′ : Job → Type 0} (refused : (n : ℕ) → No n → No′ n → Goal) (read : (j : Job) → Yes j → Yes′ j → Goal) where
-  pub of-bytes-unique : OfBytes s No Yes → OfBytes s No′ Yes′ → Goal
-  of-bytes-unique (inl p) (inl q) =
-      let e = reads-unique s (R.Refused (p .0)) (R.Refused (q .0)) (p .1) (q .1) in
-      let n : q .0 ≡ p .0 = cc in
-      refused (p .0) (p .2) (subst No′ n (q .2))
-  of-bytes-unique (inl p) (inr q) =
-      let e = reads-unique s (R.Refused (p .0)) (R.Job (q .0)) (p .1) (q .1) in
-      let z : _≡_ {A = ℕ} 0 1 = cc in
-      absurd (omega arith)
-  of-bytes-unique (inr p) (inl q) =
-      let e = reads-unique s (R.Job (p .0)) (R.Refused (q .0)) (p .1) (q .1) in
-      let z : _≡_ {A = ℕ} 0 1 = cc in
-      absurd (omega arith)
-  of-bytes-unique (inr p) (inr q) =
-      let e = reads-unique s (R.Job (p .0)) (R.Job (q .0)) (p .1) (q .1) in
-      let same : q .0 ≡ p .0 = cc in
-      read (p .0) (p .2) (subst Yes′ same (q .2))
-
--- and where they are a job, it is said of that job
-pub of-bytes-job : (s : List ℕ) (j : Job) {No : ℕ → Type 0} (Yes : Job → Type 0) → Reads s (R.Job j) → OfBytes s No Yes → Yes j
-of-bytes-job s j Yes reads (inl p) =
-    let e = reads-unique s (R.Job j) (R.Refused (p .0)) reads (p .1) in
-    let z : _≡_ {A = ℕ} 0 1 = cc in
-    absurd (omega arith)
-of-bytes-job s j Yes reads (inr p) =
-    let e = reads-unique s (R.Job (p .0)) (R.Job j) (p .1) reads in
-    let same : p .0 ≡ j = cc in
-    subst Yes same (p .2)

@@ -1,6 +1,5 @@
 -- Reading a job file: refusals 1 to 8 in order, and the job that the bytes are.
 use mathlib.Core.Path.{_≡_}
-use mathlib.Core.Logic.{_⊎_}
 use mathlib.Core.List.{List}
 use Prim.Native.Nat.{ℕ}
 use Rattle.job.specs.declared.Job.{Job}
@@ -23,7 +22,3 @@ fileChecks s =
 abbrev pub Reads : List ℕ → Reading → Type 0
 Reads s (R.Job j) = Acceptable j × (fileOf j ≡ s)
 Reads s (R.Refused r) = First (fileChecks s) r × (r ≡ 0 → ⊥)
-
--- what is said of job bytes: No of the number that refuses them, or Yes of the job that they are
-abbrev pub OfBytes : List ℕ → (ℕ → Type 0) → (Job → Type 0) → Type 0
-OfBytes s No Yes = ((number : ℕ) × Reads s (R.Refused number) × No number) ⊎ ((j : Job) × Reads s (R.Job j) × Yes j)

@@ -6,14 +6,9 @@ use mathlib.Core.List.{List}
 use Prim.Native.Nat.{ℕ}
 use lib.IntN.{ℤ}
 use Rattle.job.specs.declared.Job.{Job}
-use Rattle.reader.proofs.Theorems.{of-bytes-unique}
-use Rattle.replies.specs.Bytes.{SaysOf, roomOf, Counts}
+use Rattle.replies.specs.Bytes.{roomOf, Counts}
 use Rattle.verdict.specs.declared.Verdict.{Verdict}
 use Rattle.replies.specs.declared.bytes.Room.{Room}
-use Rattle.verdict.proofs.Unique.{says-unique}
-
-pub says-of-unique : (s : List ℕ) (v w : Verdict) → SaysOf s v → SaysOf s w → v ≡ w
-says-of-unique s v w = of-bytes-unique s (λ n e f. e ∙ sym f) (λ (j : Job). says-unique j v w)
 
 -- the room count follows the verdict
 pub counts-unique : (Is : Verdict → Type 0) → ((v w : Verdict) → Is v → Is w → v ≡ w) → (r r′ : Room) → Counts Is r → Counts Is r′ → r ≡ r′

@@ -1,10 +1,9 @@
 // The verdict on job bytes, and the room count of a record and of bytes.
 use job::Job;
-use reader::Reading;
 use verdict::Verdict;
 ghost use mathlib.Core.Path.{_≡_};
 ghost use Rattle.verdict.specs.Verdicts.{Says};
-ghost use Rattle.replies.specs.Bytes.{SaysOf, Counts, roomOf};
+ghost use Rattle.replies.specs.Bytes.{Counts, roomOf};
 
 // How many register places an accepted array has, or the refusal.
 pub enum Room {
@@ -12,29 +11,11 @@ pub enum Room {
     Refused(Verdict),
 }
 
-// The verdict on job bytes.
-pub fn verdict_of_bytes(s: &[u8]) -> Verdict
-    ensures { λ r. ⌜ SaysOf (now (s .entry)) r ⌝ }
-{
-    let read = reader::read(s);
-    match read {
-        Reading::Refused(number) => Verdict::Limit(number),
-        Reading::Job(j) => verdict::verdict_of(j),
-    }
-}
-
 // The room count of a record.
 pub fn room_of(j: Job) -> Room
     ensures { λ r. ⌜ Counts (Says j) r ⌝ }
 {
     room_in(verdict::verdict_of(j))
-}
-
-// The room count of job bytes.
-pub fn room_of_bytes(s: &[u8]) -> Room
-    ensures { λ r. ⌜ Counts (SaysOf (now (s .entry))) r ⌝ }
-{
-    room_in(verdict_of_bytes(s))
 }
 
 // The room count in a verdict.

@@ -11,9 +11,8 @@ use Rattle.job.specs.declared.Job.{Job}
 use Rattle.job.specs.Refusals.{First}
 use Rattle.job.specs.Limits.{limits, Acceptable}
 use Rattle.job.proofs.Refusing.{none-refuses}
-use Rattle.reader.proofs.Theorems.{of-bytes-unique}
 use Rattle.job.specs.Record.{points}
-use Rattle.tables.specs.Rows.{Row, RowOf}
+use Rattle.tables.specs.Rows.{Row}
 
 module _ (j : Job) (n : ℕ) (e : n ≡ points j) (s : ℕ) (h : s < j .m) where
   -- a row ends within the table
@@ -42,7 +41,3 @@ row-unique j table s p q (inl x) (inl y) = x .1 ∙ sym (y .1)
 row-unique j table s p q (inl x) (inr y) = absurd (y .0 (x .0))
 row-unique j table s p q (inr x) (inl y) = absurd (x .0 (y .0))
 row-unique j table s p q (inr x) (inr y) = x .1 ∙ sym (y .1)
-
--- and so are two rows that meet RowOf
-pub row-of-unique : (bytes table : List ℕ) (s : ℕ) (p q : List ℕ) → RowOf bytes table s p → RowOf bytes table s q → p ≡ q
-row-of-unique bytes table s p q = of-bytes-unique bytes (λ n x y. x ∙ sym y) (λ (j : Job). row-unique j table s p q)

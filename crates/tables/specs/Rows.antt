@@ -6,7 +6,6 @@ use Prim.Native.Nat.{ℕ, _*_, _<_}
 use lib.ListN.{length, take, drop}
 use Rattle.job.specs.declared.Job.{Job}
 use Rattle.job.specs.Limits.{Acceptable}
-use Rattle.reader.specs.Reading.{OfBytes}
 use Rattle.job.specs.Record.{points}
 
 -- the job is acceptable, the table is m × points long and there is such a stream
@@ -16,7 +15,3 @@ HasRow j table s = Acceptable j × (length table ≡ j .m * points j) × (s < j 
 -- where there is a row, its points values; else none
 abbrev pub Row : Job → List ℕ → ℕ → List ℕ → Type 0
 Row j table s row = (HasRow j table s × (row ≡ take (points j) (drop (s * points j) table))) ⊎ ((HasRow j table s → ⊥) × (row ≡ []))
-
--- the same of the job that the bytes are; none where they are refused
-abbrev pub RowOf : List ℕ → List ℕ → ℕ → List ℕ → Type 0
-RowOf bytes table s row = OfBytes bytes (λ (number : ℕ). row ≡ []) (λ (j : Job). Row j table s row)

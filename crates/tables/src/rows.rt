@@ -1,7 +1,7 @@
 // One stream's row of a table, as a part of the table itself.
 use job::Job;
-use reader::Reading;
-ghost use Rattle.tables.specs.Rows.{Row, RowOf};
+ghost use Rattle.job.specs.Limits.{Acceptable};
+ghost use Rattle.tables.specs.Rows.{Row};
 
 // The row of stream s, or the empty part at the front.
 pub fn row_of<'a>(j: Job, table: &'a [u32], s: u8) -> &'a [u32]
@@ -10,6 +10,14 @@ pub fn row_of<'a>(j: Job, table: &'a [u32], s: u8) -> &'a [u32]
     if job::limits::number(j) != 0 {
         return &table[..0];
     }
+    row_within(j, table, s)
+}
+
+// The same of a job that is within the limits.
+pub fn row_within<'a>(j: Job, table: &'a [u32], s: u8) -> &'a [u32]
+    requires { ⌜ Acceptable j ⌝ }
+    ensures { λ r. ⌜ Row j (now (table .entry)) s (now r) ⌝ }
+{
     if table.len() != crate::size_of(j) {
         return &table[..0];
     }
@@ -20,15 +28,4 @@ pub fn row_of<'a>(j: Job, table: &'a [u32], s: u8) -> &'a [u32]
     let from = (s as usize) * points;
     let end = from + points;
     &table[from..end]
-}
-
-// The same of the job that the bytes are.
-pub fn row_of_bytes<'a, 'b>(bytes: &'b [u8], table: &'a [u32], s: u8) -> &'a [u32]
-    ensures { λ r. ⌜ RowOf (now (bytes .entry)) (now (table .entry)) s (now r) ⌝ }
-{
-    let read = reader::read(bytes);
-    match read {
-        Reading::Refused(_number) => &table[..0],
-        Reading::Job(j) => row_of(j, table, s),
-    }
 }

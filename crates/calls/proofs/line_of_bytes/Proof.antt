@@ -3,8 +3,8 @@ use mathlib.Core.Path.{subst}
 use Rattle.reader.specs.Reading.{Reads}
 use Rattle.line.proofs.Printing.{prints-refused, prints-job}
 use borrow.Author.Needs.{needs}
-use Rattle.line.proofs.line_of_bytes.Statement.{statement}
-use Rattle.line.proofs.line_of_bytes.Tie as tie
+use Rattle.calls.proofs.line_of_bytes.Statement.{statement}
+use Rattle.calls.proofs.line_of_bytes.Tie as tie
 
 read-requires : tie.Need-read-requires
 read-requires c κs = search needs

@@ -1,6 +1,6 @@
 use borrow.Author.Needs.{needs}
-use Rattle.replies.proofs.bytes.room_of_bytes.Statement.{statement}
-use Rattle.replies.proofs.bytes.room_of_bytes.Tie as tie
+use Rattle.calls.proofs.room_of_bytes.Statement.{statement}
+use Rattle.calls.proofs.room_of_bytes.Tie as tie
 
 verdict-of-bytes-requires : tie.Need-verdict-of-bytes-requires
 verdict-of-bytes-requires c κs = search needs

@@ -3,8 +3,8 @@ use mathlib.Core.Path.{refl, subst}
 use mathlib.Core.Logic.{inl, inr}
 use borrow.Author.Needs.{needs}
 use Rattle.reader.specs.Reading.{Reads}
-use Rattle.array.proofs.run_of_bytes.Statement.{statement}
-use Rattle.array.proofs.run_of_bytes.Tie as tie
+use Rattle.calls.proofs.tick_of_bytes.Statement.{statement}
+use Rattle.calls.proofs.tick_of_bytes.Tie as tie
 
 read-requires : tie.Need-read-requires
 read-requires c κs = search needs
@@ -15,8 +15,8 @@ enum-known-read c = search needs
 enum-known-read-2 : tie.Need-enum-known-read-2
 enum-known-read-2 c = search needs
 
-run-of-requires : tie.Need-run-of-requires
-run-of-requires c κs = search needs
+tick-of-requires : tie.Need-tick-of-requires
+tick-of-requires c κs = search needs
 
 returns : tie.Need-returns
 returns c = inl (_, subst (Reads _) (c .before .read2 .given .1) (c .before .before .before .read .ensures), (refl, (refl, refl)))
@@ -30,7 +30,7 @@ same-length-2 c = search needs
 returns-2 : tie.Need-returns-2
 returns-2 c =
     let b = c .before .before .before .before in
-    inr (_, subst (Reads _) (b .before .before .before .before .read3 .given .1) (b .before .before .before .before .before .before .read .ensures), b .run-of .ensures)
+    inr (_, subst (Reads _) (b .before .before .before .before .read3 .given .1) (b .before .before .before .before .before .before .read .ensures), b .tick-of .ensures)
 
-pub run-of-bytes-spec : {M : Type 1} → statement M
-run-of-bytes-spec = tie.close (tie.spec read-requires enum-known-read enum-known-read-2 run-of-requires returns same-length same-length-2 returns-2)
+pub tick-of-bytes-spec : {M : Type 1} → statement M
+tick-of-bytes-spec = tie.close (tie.spec read-requires enum-known-read enum-known-read-2 tick-of-requires returns same-length same-length-2 returns-2)

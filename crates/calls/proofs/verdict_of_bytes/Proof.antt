@@ -3,8 +3,8 @@ use mathlib.Core.Path.{refl, subst}
 use mathlib.Core.Logic.{inl, inr}
 use borrow.Author.Needs.{needs}
 use Rattle.reader.specs.Reading.{Reads}
-use Rattle.replies.proofs.bytes.verdict_of_bytes.Statement.{statement}
-use Rattle.replies.proofs.bytes.verdict_of_bytes.Tie as tie
+use Rattle.calls.proofs.verdict_of_bytes.Statement.{statement}
+use Rattle.calls.proofs.verdict_of_bytes.Tie as tie
 
 read-requires : tie.Need-read-requires
 read-requires c κs = search needs

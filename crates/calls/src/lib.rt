@@ -1,0 +1,102 @@
+// The functions on job bytes: each reads the job and answers the reader's refusal, or what is answered for the job that the bytes are. What the reader hands on is within the limits, so they are not asked a second time.
+use array::lookup::Lookup;
+use array::loops::LoopReply;
+use checks::RunReply;
+use reader::Reading;
+use verdict::Verdict;
+use verdict::room::Room;
+ghost use Rattle.job.specs.declared.Job.{Job};
+ghost use Prim.Native.Nat.{_≤_};
+ghost use lib.ListN.{length};
+ghost use Rattle.calls.specs.Bytes.{SaysOf, CountsOf, RunsOf, SingleTickOf, LoopsOf, RowOf, LooksOf, WritesOf};
+
+// The verdict.
+pub fn verdict_of_bytes(s: &[u8]) -> Verdict
+    ensures { λ r. ⌜ SaysOf (now (s .entry)) r ⌝ }
+{
+    let read = reader::read(s);
+    match read {
+        Reading::Refused(number) => Verdict::Limit(number),
+        Reading::Job(j) => verdict::judged(j),
+    }
+}
+
+// The room count.
+pub fn room_of_bytes(s: &[u8]) -> Room
+    ensures { λ r. ⌜ CountsOf (now (s .entry)) r ⌝ }
+{
+    verdict::room::room_in(verdict_of_bytes(s))
+}
+
+// The run.
+pub fn run_of_bytes(s: &[u8], input: &[u32], values: &mut [u32], places: &mut [u32]) -> RunReply
+    ensures { λ r. ⌜ RunsOf (now (s .entry)) (now (input .entry)) (now (values .entry)) (now (places .entry)) (now (values .exit)) (now (places .exit)) r ⌝ }
+{
+    let read = reader::read(s);
+    match read {
+        Reading::Refused(number) => RunReply::Refused(Verdict::Limit(number)),
+        Reading::Job(j) => array::run_of(j, input, &mut values[..], &mut places[..]),
+    }
+}
+
+// One tick, from the lent places as they are.
+pub fn tick_of_bytes(
+    s: &[u8],
+    t: u64,
+    input: &[u32],
+    values: &mut [u32],
+    places: &mut [u32],
+) -> RunReply
+    ensures { λ r. ⌜ SingleTickOf t (now (s .entry)) (now (input .entry)) (now (values .entry)) (now (places .entry)) (now (values .exit)) (now (places .exit)) r ⌝ }
+{
+    let read = reader::read(s);
+    match read {
+        Reading::Refused(number) => RunReply::Refused(Verdict::Limit(number)),
+        Reading::Job(j) => array::tick_of(j, t, input, &mut values[..], &mut places[..]),
+    }
+}
+
+// The loop.
+pub fn loop_of_bytes(s: &[u8], input: &[u32], values: &mut [u32]) -> LoopReply
+    ensures { λ r. ⌜ LoopsOf (now (s .entry)) (now (input .entry)) (now (values .entry)) (now (values .exit)) r ⌝ }
+{
+    let read = reader::read(s);
+    match read {
+        Reading::Refused(number) => LoopReply::Refused(number),
+        Reading::Job(j) => array::loops::loop_within(j, input, &mut values[..]),
+    }
+}
+
+// The row of stream i of a table.
+pub fn row_of_bytes<'a, 'b>(s: &'b [u8], table: &'a [u32], i: u8) -> &'a [u32]
+    ensures { λ r. ⌜ RowOf (now (s .entry)) (now (table .entry)) i (now r) ⌝ }
+{
+    let read = reader::read(s);
+    match read {
+        Reading::Refused(_number) => &table[..0],
+        Reading::Job(j) => tables::rows::row_within(j, table, i),
+    }
+}
+
+// The point worked in tick t at cell x.
+pub fn point_at_bytes(s: &[u8], t: u64, x: u64) -> Lookup
+    ensures { λ r. ⌜ LooksOf (now (s .entry)) t x r ⌝ }
+{
+    let read = reader::read(s);
+    match read {
+        Reading::Refused(number) => Lookup::Refused(Verdict::Limit(number)),
+        Reading::Job(j) => array::lookup::point_judged(j, verdict::judged(j), t, x),
+    }
+}
+
+// The printed line, written to the front of a buffer; its length.
+pub fn line_of_bytes(out: &mut [u8], s: &[u8]) -> usize
+    ensures writes { λ r. ⌜ WritesOf (now (s .entry)) (now (out .entry)) r (now (out .exit)) ⌝ }
+    ensures inside { λ r. ⌜ r ≤ length (now (out .exit)) ⌝ }
+{
+    let read = reader::read(s);
+    match read {
+        Reading::Refused(number) => line::write_line(out, 0, Verdict::Limit(number)),
+        Reading::Job(j) => line::write_line(out, j.n, verdict::judged(j)),
+    }
+}
