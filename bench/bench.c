@@ -1,4 +1,7 @@
-/* The library against plain C, on the same jobs in one run. Prints times in microseconds and ratios. */
+/*
+ * The library against plain C, on the same jobs in one run. A line for each job: its name, the microseconds of a verdict, as a multiple of
+ * the plain and of the quick walk's, all pairs' as a multiple of it; the microseconds of a run, as a multiple of the plain and of the quick one's.
+ */
 #define _POSIX_C_SOURCE 199309L
 #include "najluthed.h"
 #include "plain.h"
@@ -37,43 +40,59 @@ static size_t bytes_of(const plain_job *j, uint8_t *out) {
     return total;
 }
 
-static uint32_t input[4096], values[4096], others[4096], places[8192], room[8192];
-static volatile int sink;
+static uint32_t input[4096], values[4096], places[8192], others[4096], room[8192];
 
-/* The least time of one call in eight rounds of so many calls: what the machine does beside it only adds. */
-#define TIMED(turns, call)                                              \
-    ({                                                                  \
-        double least_ = 1e12;                                           \
-        for (int r_ = 0; r_ < 8; r_++) {                                \
-            double from_ = now();                                       \
-            for (int i_ = 0; i_ < (turns); i_++) sink += (int)(call);   \
-            double took_ = (now() - from_) / (turns);                   \
-            if (took_ < least_) least_ = took_;                         \
-        }                                                               \
-        least_;                                                         \
-    })
+/* What is timed, and how many calls make a round. */
+enum { VERDICT, WALK, QUICK_WALK, PAIRS, RUN, PLAIN_RUN, QUICK_RUN, KINDS };
+static const int turns[] = {20, 20, 20, 2, 5, 5, 5};
 
-/* What a run does: the verdict, then, if it is 0, the ticks. */
-static uint64_t plain_whole_run(const plain_job *j) { return plain_walk(j) ? 0 : plain_run(j, input, others, room); }
-
-static int tried(const char *name, const plain_job *j) {
+typedef struct {
+    const plain_job *j;
     uint8_t job[80];
-    size_t length = bytes_of(j, job), points = 1;
-    for (int i = 0; i < 4; i++) points *= j->high[i] - j->low[i] + 1;
-    size_t table = points * j->m;
-    najluthed_reply v = najluthed_verdict(job, length);
-    int wrong = (int)v.number != plain_all_pairs(j) || (int)v.number != plain_walk(j);
-    double ours = TIMED(20, najluthed_verdict(job, length).number);
-    double walk = TIMED(20, plain_walk(j)), pairs = TIMED(2, plain_all_pairs(j));
-    printf("%-22s verdict %2u  ours %9.1f  walk %9.1f  pairs %11.1f  ours/walk %5.2f  pairs/ours %7.1f\n", name, v.number, ours, walk, pairs,
-           ours / walk, pairs / ours);
-    najluthed_done r = najluthed_room(job, length);
-    if (v.number || r.count > 8192) return wrong;
-    for (size_t i = 0; i < table; i++) input[i] = (uint32_t)i + 1;
-    double run = TIMED(5, najluthed_run(job, length, input, table, values, table, places, 8192).count);
-    double plain = TIMED(5, plain_whole_run(j));
-    wrong |= memcmp(values, others, table * sizeof *values) != 0 || memcmp(places, room, r.count * sizeof *places) != 0;
-    printf("%-22s run         ours %9.1f  plain %8.1f  ours/plain %5.2f\n", name, run, plain, run / plain);
+    size_t length, table;
+} trial;
+
+/* One call. A run is the verdict and, if that is 0, the ticks. */
+static uint64_t called(int kind, const trial *t) {
+    switch (kind) {
+    case VERDICT: return najluthed_verdict(t->job, t->length).number;
+    case WALK: return (uint64_t)plain_walk(t->j);
+    case QUICK_WALK: return (uint64_t)quick_walk(t->j);
+    case PAIRS: return (uint64_t)all_pairs(t->j);
+    case RUN: return najluthed_run(t->job, t->length, input, t->table, values, t->table, places, 8192).count;
+    case PLAIN_RUN: return plain_walk(t->j) ? 0 : plain_run(t->j, input, others, room);
+    default: return quick_walk(t->j) ? 0 : quick_run(t->j, input, others, room);
+    }
+}
+
+/* Whether a run of plain C leaves the values and places of ours. */
+static int is_same_run(int kind, const trial *t, uint64_t ticks, size_t used) {
+    memset(others, 1, sizeof others);
+    memset(room, 1, sizeof room);
+    return called(kind, t) == ticks && !memcmp(values, others, t->table * sizeof *values) && !memcmp(places, room, used * sizeof *places);
+}
+
+/* One job: its line of ratios, tab after tab, and whether a reply differs. The time of a call is the least of eight rounds, which take turns: what the machine does beside it only adds. */
+static int tried(const char *name, const plain_job *j) {
+    trial t = {j, {0}, 0, (size_t)j->m};
+    t.length = bytes_of(j, t.job);
+    for (int i = 0; i < 4; i++) t.table *= (size_t)(j->high[i] - j->low[i] + 1);
+    for (size_t i = 0; i < t.table; i++) input[i] = (uint32_t)i + 1;
+    int wrong = called(VERDICT, &t) || called(WALK, &t) || called(QUICK_WALK, &t) || called(PAIRS, &t);
+    uint64_t ticks = called(RUN, &t), used = najluthed_room(t.job, t.length).count;
+    wrong |= !is_same_run(PLAIN_RUN, &t, ticks, used) || !is_same_run(QUICK_RUN, &t, ticks, used);
+    double least[KINDS];
+    uint64_t sum = 0;
+    for (int round = 0; round < 8; round++)
+        for (int kind = 0; kind < KINDS; kind++) {
+            double from = now();
+            for (int i = 0; i < turns[kind]; i++) sum += called(kind, &t);
+            double took = (now() - from) / turns[kind];
+            if (round == 0 || took < least[kind]) least[kind] = took;
+        }
+    wrong |= sum != 8 * 15 * ticks;
+    printf("%s\t%f\t%f\t%f\t%f\t%f\t%f\t%f\n", name, least[VERDICT], least[VERDICT] / least[WALK], least[VERDICT] / least[QUICK_WALK],
+           least[PAIRS] / least[VERDICT], least[RUN], least[RUN] / least[PLAIN_RUN], least[RUN] / least[QUICK_RUN]);
     return wrong;
 }
 
@@ -140,6 +159,6 @@ int main(void) {
         snprintf(name, sizeof name, "drawn %d: %dx%dx%d, m %d", i, j.high[0] + 1, j.high[1] + 1, j.high[2] + 1, j.m);
         wrong |= tried(name, &j);
     }
-    puts(wrong ? "bench: the replies differ" : "bench: the same replies");
+    if (wrong) fputs("bench: the replies differ\n", stderr);
     return wrong;
 }

@@ -25,10 +25,12 @@
  *     15  fewer than R places are lent
  *     16  the number of a single tick is not below the tick count
  *
- * What is altered. A refusal alters nothing that was lent. The job and the input are never altered. Otherwise:
+ * What is altered. A refusal alters nothing that was lent, save that najluthed_line writes its line. The job and the input are
+ * never altered. Otherwise:
  *     najluthed_run    writes every value, and the first R places; no place past them;
  *     najluthed_tick   writes the values of the points worked in that tick, and one place for each stream and cell;
- *     najluthed_loop   writes every value.
+ *     najluthed_loop   writes every value;
+ *     najluthed_line   writes the line to the front of the buffer; no byte behind it.
  *
  * Tables hold stream by stream, points in box order (the first coordinate most significant). Places hold stream by stream,
  * cell by cell (row-major), w places each.
@@ -54,6 +56,12 @@ extern "C" {
 /* The room that a run never passes: places for so many suffice for every job that 14 does not refuse. */
 #define NAJLUTHED_MOST_ROOM 8192
 
+/* The bytes of the longest job file. One byte more of a longer file suffices to have it refused, with the same number. */
+#define NAJLUTHED_LONGEST_JOB 68
+
+/* The bytes that a buffer for the line must have. No line, with its newline, is longer. */
+#define NAJLUTHED_LONGEST_LINE 269
+
 /* A verdict. `stream` is that of 9, 10 and 12, `hops` that of 12, with its sign; they are 0 where there is none. */
 typedef struct {
     uint32_t number;
@@ -66,6 +74,21 @@ typedef struct {
     uint32_t number;
     uint64_t count;
 } najluthed_done;
+
+/*
+ * The sizes of a job. `dimensions` is n, `streams` m and `points` how many points the box has: of every job that 1 to 8 do not
+ * refuse, so that a table has streams x points elements. `cells`, `ticks` and `room`, which is R, are those of an accepted job.
+ * Where there is none, each is 0.
+ */
+typedef struct {
+    uint32_t number;
+    uint32_t dimensions;
+    uint32_t streams;
+    uint64_t points;
+    uint64_t cells;
+    uint64_t ticks;
+    uint64_t room;
+} najluthed_extent;
 
 /* A point: `found` is 1 where there is one, and then x0 to x3 are its coordinates, 0 from the n-th on. Else `found` and x0 to x3 are 0. */
 typedef struct {
@@ -83,6 +106,15 @@ najluthed_reply najluthed_verdict(const uint8_t *job, size_t length);
 /* How many places a run needs: the count is R, and 0 for a refusal. Numbers 1 to 12. */
 najluthed_done najluthed_room(const uint8_t *job, size_t length);
 
+/* How large the job is, and so how long its tables are. Numbers 1 to 12. */
+najluthed_extent najluthed_sizes(const uint8_t *job, size_t length);
+
+/*
+ * The line that the checking program prints, in ASCII, closed by a newline and no zero byte; the answer is its length. A buffer
+ * of fewer than NAJLUTHED_LONGEST_LINE bytes stays as it is, and the answer is 0.
+ */
+size_t najluthed_line(const uint8_t *job, size_t length, uint8_t *out, size_t out_count);
+
 /*
  * The first R places are cleared, then every tick is done in order. The count is the tick count; R for 14 and 15; else 0.
  * Numbers 1 to 15.
@@ -97,7 +129,7 @@ najluthed_done najluthed_tick(const uint8_t *job, size_t length, uint64_t tick, 
                               uint32_t *values, size_t value_count, uint32_t *places, size_t place_count);
 
 /*
- * The plain loop nest, points in box order; the array needs not be one that can be built. The count is the point count, and 0
+ * The plain loop nest, points in box order; the array need not be one that can be built. The count is the point count, and 0
  * for a refusal. Numbers 1 to 8 and 13.
  */
 najluthed_done najluthed_loop(const uint8_t *job, size_t length, const uint32_t *input, size_t inputs, uint32_t *values,

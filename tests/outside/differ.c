@@ -1,11 +1,12 @@
 /*
  * The library beside the reference, on drawn jobs: good, damaged, cut short and drawn out, with right and wrong lengths of table,
- * enough places and too few. Whatever a call is lent is compared word for word afterwards, with the guard words around it.
+ * enough places and too few, buffers that a line fits into and shorter ones. Whatever a call is lent is compared afterwards, with
+ * the guards around it.
  *
  *     differ JOBS SEED GUARDS
  *
- * GUARDS words stand on each side of every table: 0 lets valgrind see a step outside. From 1,000 jobs on, a number of refusal that
- * never came is a difference too.
+ * GUARDS words stand on each side of every table, as many bytes on each side of a line's buffer: 0 lets valgrind see a step
+ * outside. From 1,000 jobs on, a number of refusal that never came is a difference too.
  */
 #include <stdio.h>
 #include <stdlib.h>
@@ -55,8 +56,8 @@ static void take_back(struct table *t) {
 
 /* ---- the comparison */
 
-enum call { VERDICT, ROOM, RUN, TICK, LOOP, POINT, CALLS };
-static const char *const names[] = {"verdict", "room", "run", "tick", "loop", "point"};
+enum call { VERDICT, ROOM, SIZES, LINE, RUN, TICK, LOOP, POINT, CALLS };
+static const char *const names[] = {"verdict", "room", "sizes", "line", "run", "tick", "loop", "point"};
 static unsigned long seen[CALLS][17];
 
 static void expect(enum call call, const struct file *f, unsigned number, int same) {
@@ -183,7 +184,40 @@ static void compare_point(const struct file *f, const struct job *j, unsigned re
            got.number == refused && got.found == (i >= 0) && got.x0 == x[0] && got.x1 == x[1] && got.x2 == x[2] && got.x3 == x[3]);
 }
 
+static void compare_sizes(const struct file *f, const struct job *j, unsigned unread, unsigned refused, const uint8_t *job, size_t length) {
+    najluthed_extent due = {refused, 0, 0, 0, 0, 0, 0}, got = najluthed_sizes(job, length);
+    if (!unread) {
+        due.dimensions = (uint32_t)j->n;
+        due.streams = (uint32_t)j->m;
+        due.points = (uint64_t)j->points;
+    }
+    if (!refused) {
+        due.cells = j->cells;
+        due.ticks = (uint64_t)j->ticks;
+        due.room = j->room;
+    }
+    expect(SIZES, f, refused,
+           got.number == due.number && got.dimensions == due.dimensions && got.streams == due.streams && got.points == due.points &&
+               got.cells == due.cells && got.ticks == due.ticks && got.room == due.room);
+}
+
+/* The line in a buffer of so many bytes, of which all that it does not take must stay, with the guard bytes around it. */
+static void compare_line(const struct file *f, unsigned refused, const char *line, const uint8_t *job, size_t length, size_t room) {
+    size_t due = room < NAJLUTHED_LONGEST_LINE ? 0 : strlen(line), whole = room + 2 * guards;
+    uint8_t *block = malloc(whole ? whole : 1), *was = malloc(whole ? whole : 1);
+    for (size_t i = 0; i < whole; i++) {
+        was[i] = block[i] = (uint8_t)draw_word();
+    }
+    memcpy(was + guards, line, due);
+    size_t got = najluthed_line(job, length, block + guards, room);
+    expect(LINE, f, refused, got == due && memcmp(block, was, whole) == 0);
+    free(block);
+    free(was);
+}
+
 static void compare(const struct file *f) {
+    enum { LONGEST = NAJLUTHED_LONGEST_LINE };
+    static const size_t enough[] = {LONGEST, LONGEST, LONGEST + 1, LONGEST + 40}, few[] = {LONGEST - 1, LONGEST - 2, 200, 40, 16, 2, 1, 0};
     static struct job j;
     /* the job at its exact length */
     uint8_t *job = malloc(f->length ? f->length : 1);
@@ -201,6 +235,11 @@ static void compare(const struct file *f) {
     expect(VERDICT, f, refused, reply.number == refused && reply.stream == due_verdict.stream && reply.hops == due_verdict.hops);
     najluthed_done room = najluthed_room(job, length);
     expect(ROOM, f, refused, room.number == refused && room.count == (refused ? 0 : j.room));
+    compare_sizes(f, &j, unread, refused, job, length);
+    char line[200];
+    reference_line(&j, due_verdict, line);
+    compare_line(f, refused, line, job, length, pick(enough, 4));
+    compare_line(f, refused, line, job, length, pick(few, 8));
 
     size_t right = unread ? (size_t)draw(0, 20) : (size_t)j.m * (size_t)j.points;
     uint64_t places = refused ? (uint64_t)draw(0, 20) : j.room;
@@ -220,7 +259,7 @@ static void compare(const struct file *f) {
 
 /* How often each number came, and those that never did. */
 static void tell(int demand) {
-    static const unsigned most[] = {12, 12, 15, 16, 13, 12};
+    static const unsigned most[] = {12, 12, 12, 12, 15, 16, 13, 12};
     for (int call = 0; call < CALLS; call++) {
         printf("%s:", names[call]);
         for (unsigned number = 0; number <= most[call]; number++) {
