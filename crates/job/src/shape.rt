@@ -32,8 +32,8 @@ fn are_counts(n: u8, k: u8, m: u8) -> bool
 fn is_unused(v: Vector, n: u8) -> bool
     ensures { λ r. ⌜ Tells (Unused n v) r ⌝ }
 {
-    (!(n <= 0) | (v.x0 == 0))
-        & ((!(n <= 1) | (v.x1 == 0)) & ((!(n <= 2) | (v.x2 == 0)) & (!(n <= 3) | (v.x3 == 0))))
+    ((0 < n) | (v.x0 == 0))
+        & (((1 < n) | (v.x1 == 0)) & (((2 < n) | (v.x2 == 0)) & ((3 < n) | (v.x3 == 0))))
 }
 
 // Is every place of the stream 0?
