@@ -1,3 +1,4 @@
+-- The room count in the verdict on the bytes.
 use borrow.Author.Needs.{needs}
 use Rattle.calls.proofs.room_of_bytes.Statement.{statement}
 use Rattle.calls.proofs.room_of_bytes.Tie as tie

@@ -1,9 +1,10 @@
-// The verdict on job bytes, and the room count of a record and of bytes.
+// The room count.
+use crate::Verdict;
+use job::Counted;
 use job::Job;
-use verdict::Verdict;
 ghost use mathlib.Core.Path.{_≡_};
 ghost use Rattle.verdict.specs.Verdicts.{Says};
-ghost use Rattle.replies.specs.Bytes.{Counts, roomOf};
+ghost use Rattle.verdict.specs.Rooms.{Counts, roomOf, countedOf};
 
 // How many register places an accepted array has, or the refusal.
 pub enum Room {
@@ -15,11 +16,11 @@ pub enum Room {
 pub fn room_of(j: Job) -> Room
     ensures { λ r. ⌜ Counts (Says j) r ⌝ }
 {
-    room_in(verdict::verdict_of(j))
+    room_in(crate::verdict_of(j))
 }
 
 // The room count in a verdict.
-fn room_in(v: Verdict) -> Room
+pub fn room_in(v: Verdict) -> Room
     ensures { λ r. ⌜ r ≡ roomOf v ⌝ }
 {
     match v {
@@ -29,5 +30,21 @@ fn room_in(v: Verdict) -> Room
         Verdict::Hop(s) => Room::Refused(Verdict::Hop(s)),
         Verdict::Cell(pair) => Room::Refused(Verdict::Cell(pair)),
         Verdict::Link(clash) => Room::Refused(Verdict::Link(clash)),
+    }
+}
+
+// The number and the count of a room count.
+pub fn counted(r: Room) -> Counted
+    ensures { λ c. ⌜ c ≡ countedOf r ⌝ }
+{
+    match r {
+        Room::Places(count) => Counted { number: 0, count },
+        Room::Refused(v) => {
+            let a = crate::numbers::in_numbers(v);
+            Counted {
+                number: a.number,
+                count: 0,
+            }
+        }
     }
 }
