@@ -9,7 +9,7 @@ ghost use Rattle.space.specs.Boxes.{foundOf};
 ghost use Rattle.job.specs.Limits.{Acceptable};
 ghost use Rattle.array.specs.Ticks.{pointAt};
 ghost use Rattle.verdict.specs.Verdicts.{Says};
-ghost use Rattle.array.specs.Lookups.{Looks};
+ghost use Rattle.array.specs.Lookups.{Looks, unfound, lookedOf};
 ghost use Rattle.frame.specs.Framing.{Framed};
 
 // The point, or that none is worked there and then, or the verdict's refusal.
@@ -17,6 +17,13 @@ pub enum Lookup {
     At(Vector),
     Nowhere,
     Refused(Verdict),
+}
+
+// The same in numbers: the number of refusal, 0 for none; whether there is a point, 1 or 0; and the point, 0 where there is none.
+pub struct Looked {
+    pub number: u8,
+    pub found: u8,
+    pub point: Vector,
 }
 
 // The point that an accepted array works in tick t at cell x.
@@ -38,6 +45,41 @@ pub fn point_judged(j: Job, v: Verdict, t: u64, x: u64) -> Lookup
     match found {
         Found::At(k) => Lookup::At(space::boxes::point(j.bounds, k)),
         Found::Nowhere => Lookup::Nowhere,
+    }
+}
+
+// The number and the point of a look-up.
+pub fn looked(l: Lookup) -> Looked
+    ensures { λ r. ⌜ r ≡ lookedOf l ⌝ }
+{
+    match l {
+        Lookup::At(point) => Looked {
+            number: 0,
+            found: 1,
+            point,
+        },
+        Lookup::Nowhere => nothing(0),
+        Lookup::Refused(v) => {
+            let told = verdict::numbers::in_numbers(v);
+            nothing(told.number)
+        }
+    }
+}
+
+// No point, with a number of refusal.
+fn nothing(number: u8) -> Looked
+    ensures { λ r. ⌜ r ≡ unfound number ⌝ }
+{
+    let point = Vector {
+        x0: 0,
+        x1: 0,
+        x2: 0,
+        x3: 0,
+    };
+    Looked {
+        number,
+        found: 0,
+        point,
     }
 }
 

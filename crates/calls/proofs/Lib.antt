@@ -1,3 +1,2 @@
 pub mod BytesLaws
 pub mod Unique
-pub mod Example

@@ -3,11 +3,12 @@ use mathlib.Core.Path.{_≡_, sym, ap, subst, _∙_}
 use mathlib.Core.List.{List}
 use Prim.Native.Nat.{ℕ}
 use Rattle.job.specs.declared.Job.{Job}
+use Rattle.job.specs.Record.{points}
+use Rattle.verdict.specs.Verdicts.{inNumbers, numberOf}
 use Rattle.verdict.specs.declared.Verdict.{Verdict}
 use Rattle.verdict.specs.declared.Verdict.the-variants.{Limit}
-use Rattle.verdict.proofs.Unique.{says-unique}
+use Rattle.verdict.proofs.Unique.{says-unique, counts-unique}
 use Rattle.verdict.specs.declared.room.Room.{Room}
-use Rattle.verdict.proofs.Rooms.{counts-unique}
 use Rattle.checks.specs.declared.RunReply.{RunReply}
 use Rattle.checks.specs.declared.RunReply.the-variants as Run
 use Rattle.tables.proofs.RowLaws.{row-unique}
@@ -18,7 +19,8 @@ use Rattle.array.proofs.UniqueReplies.{runs-unique, single-tick-unique}
 use Rattle.array.proofs.Unique.{looks-unique}
 use Rattle.line.specs.Lines.{lineOf, Writes}
 use Rattle.line.proofs.Printing.{writes-unique}
-use Rattle.calls.specs.Bytes.{SaysOf, CountsOf, RunsOf, SingleTickOf, LoopsOf, RowOf, LooksOf, Prints, WritesOf}
+use Rattle.calls.specs.declared.Measures.{Measures}
+use Rattle.calls.specs.Bytes.{SaysOf, CountsOf, MeasuresIn, MeasuresOf, RunsOf, SingleTickOf, LoopsOf, RowOf, LooksOf, Prints, WritesOf}
 use Rattle.calls.proofs.BytesLaws.{of-bytes-unique}
 
 -- the verdict, and the room count in it
@@ -27,6 +29,16 @@ says-of-unique s v w = of-bytes-unique s (λ n e f. e ∙ sym f) (λ (j : Job). 
 
 pub counts-of-unique : (s : List ℕ) (r r′ : Room) → CountsOf s r → CountsOf s r′ → r ≡ r′
 counts-of-unique s = counts-unique (SaysOf s) (says-of-unique s)
+
+-- the measures
+pub measures-of-unique : (s : List ℕ) (r r′ : Measures) → MeasuresOf s r → MeasuresOf s r′ → r ≡ r′
+measures-of-unique s r r′ = of-bytes-unique s (λ n e f. e ∙ sym f) same
+  where
+    measured : Job → Verdict → Measures
+    measured j v = record { number = numberOf v; dimensions = j .n; streams = j .m; points = points j; extent = inNumbers v .extent }
+
+    same : (j : Job) → MeasuresIn j r → MeasuresIn j r′ → r ≡ r′
+    same j a b = a .2 ∙ ap (measured j) (says-unique j (a .0) (b .0) (a .1) (b .1)) ∙ sym (b .2)
 
 -- a run and a single tick
 module _ (s input values places v p v′ p′ : List ℕ) (r r′ : RunReply) where

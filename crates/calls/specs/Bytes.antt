@@ -6,7 +6,8 @@ use Prim.Native.Nat.{ℕ}
 use Rattle.job.specs.declared.Job.{Job}
 use Rattle.reader.specs.Reading.{Reads}
 use Rattle.reader.specs.declared.Reading.the-variants as Reading
-use Rattle.verdict.specs.Verdicts.{Says}
+use Rattle.job.specs.Record.{points}
+use Rattle.verdict.specs.Verdicts.{noExtent, inNumbers, numberOf, Says}
 use Rattle.verdict.specs.Rooms.{Counts}
 use Rattle.verdict.specs.declared.Verdict.{Verdict}
 use Rattle.verdict.specs.declared.Verdict.the-variants.{Limit}
@@ -22,6 +23,7 @@ use Rattle.array.specs.Lookups.{Looks}
 use Rattle.array.specs.declared.lookup.Lookup.{Lookup}
 use Rattle.array.specs.declared.lookup.Lookup.the-variants as Lookup
 use Rattle.line.specs.Lines.{lineOf, Writes}
+use Rattle.calls.specs.declared.Measures.{Measures}
 
 -- No of the number that refuses the bytes, or Yes of the job that they are
 abbrev pub OfBytes : List ℕ → (ℕ → Type 0) → (Job → Type 0) → Type 0
@@ -33,6 +35,16 @@ SaysOf s v = OfBytes s (λ (number : ℕ). v ≡ Limit number) (λ (j : Job). Sa
 
 abbrev pub CountsOf : List ℕ → Room → Type 0
 CountsOf s = Counts (SaysOf s)
+
+-- what a caller must know to lend tables: of bytes that are refused only the number; else n, m and the points, and the number and the extent of the verdict
+abbrev pub noMeasures : ℕ → Measures
+noMeasures number = record { number = number; dimensions = 0; streams = 0; points = 0; extent = noExtent }
+
+abbrev pub MeasuresIn : Job → Measures → Type 0
+MeasuresIn j r = (v : Verdict) × Says j v × (r ≡ record { number = numberOf v; dimensions = j .n; streams = j .m; points = points j; extent = inNumbers v .extent })
+
+abbrev pub MeasuresOf : List ℕ → Measures → Type 0
+MeasuresOf s r = OfBytes s (λ (number : ℕ). r ≡ noMeasures number) (λ (j : Job). MeasuresIn j r)
 
 -- a run and a single tick: a refusal leaves values and places as they were
 abbrev pub RunsOf : List ℕ → List ℕ → List ℕ → List ℕ → List ℕ → List ℕ → RunReply → Type 0

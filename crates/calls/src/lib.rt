@@ -2,13 +2,25 @@
 use array::lookup::Lookup;
 use array::loops::LoopReply;
 use checks::RunReply;
+use job::Job;
 use reader::Reading;
+use verdict::Extent;
 use verdict::Verdict;
 use verdict::room::Room;
-ghost use Rattle.job.specs.declared.Job.{Job};
+ghost use mathlib.Core.Path.{_≡_};
 ghost use Prim.Native.Nat.{_≤_};
 ghost use lib.ListN.{length};
-ghost use Rattle.calls.specs.Bytes.{SaysOf, CountsOf, RunsOf, SingleTickOf, LoopsOf, RowOf, LooksOf, WritesOf};
+ghost use Rattle.job.specs.Limits.{Acceptable};
+ghost use Rattle.calls.specs.Bytes.{SaysOf, CountsOf, noMeasures, MeasuresIn, MeasuresOf, RunsOf, SingleTickOf, LoopsOf, RowOf, LooksOf, WritesOf};
+
+// What a caller must know to lend tables: the number of refusal, 0 for none; n, m and the points of a job that is within the limits; the extent of an accepted array. What there is not is 0.
+pub struct Measures {
+    pub number: u8,
+    pub dimensions: u8,
+    pub streams: u8,
+    pub points: u64,
+    pub extent: Extent,
+}
 
 // The verdict.
 pub fn verdict_of_bytes(s: &[u8]) -> Verdict
@@ -26,6 +38,51 @@ pub fn room_of_bytes(s: &[u8]) -> Room
     ensures { λ r. ⌜ CountsOf (now (s .entry)) r ⌝ }
 {
     verdict::room::room_in(verdict_of_bytes(s))
+}
+
+// The measures.
+pub fn measures_of_bytes(s: &[u8]) -> Measures
+    ensures { λ r. ⌜ MeasuresOf (now (s .entry)) r ⌝ }
+{
+    let read = reader::read(s);
+    match read {
+        Reading::Refused(number) => refused(number),
+        Reading::Job(j) => measured(j),
+    }
+}
+
+// The measures of a job that is within the limits.
+fn measured(j: Job) -> Measures
+    requires { ⌜ Acceptable j ⌝ }
+    ensures { λ r. ⌜ MeasuresIn j r ⌝ }
+{
+    let told = verdict::numbers::in_numbers(verdict::judged(j));
+    let extent = told.extent;
+    Measures {
+        number: told.number,
+        dimensions: j.n,
+        streams: j.m,
+        points: space::boxes::count(j.bounds),
+        extent,
+    }
+}
+
+// The measures of bytes that are refused: there are none.
+fn refused(number: u8) -> Measures
+    ensures { λ r. ⌜ r ≡ noMeasures number ⌝ }
+{
+    let extent = Extent {
+        cells: 0,
+        ticks: 0,
+        room: 0,
+    };
+    Measures {
+        number,
+        dimensions: 0,
+        streams: 0,
+        points: 0,
+        extent,
+    }
 }
 
 // The run.

@@ -1,29 +1,49 @@
 -- The small jobs that document 01 marks *: each line of the table holds.
 use mathlib.Core.Path.{_≡_, refl, ap, subst}
+use mathlib.Core.Logic.{inr}
 use mathlib.Core.List.{List, [], _∷_, map, tail}
 use Prim.Native.Nat.{ℕ, zero, suc, _<_}
 use native.Mathlib.Omega.{arith}
 use Rattle.space.specs.Vectors.{minusOf}
 use Rattle.space.specs.Boxes.{countOf, placeOf, pointOf, backOf}
 use Rattle.job.specs.declared.Job.{Job}
+use Rattle.job.specs.Record.{zeroVector}
+use Rattle.job.specs.Limits.{Acceptable}
+use Rattle.layout.specs.Layout.{fileOf}
 use Rattle.verdict.specs.Verdicts.{Says}
 use Rattle.verdict.specs.declared.Verdict.{Verdict}
 use Rattle.verdict.specs.declared.Verdict.the-variants.{Accepted}
+use Rattle.verdict.proofs.Accepted.{past-limits}
 use Rattle.decisions.proofs.Answer.{answer}
+use Rattle.print.specs.Decimal.{digits, decimal}
+use Rattle.print.specs.Words.{wordBytes}
+use Rattle.line.specs.Fields.{fieldsBytes, coordinates, pairFields, lineFields}
+use Rattle.line.specs.Lines.{lineOf}
 use Rattle.tables.specs.Tables.{entryFor}
 use Rattle.cell.specs.Cells.{ruled, work}
 use Rattle.array.specs.Loops.{incoming}
 use Rattle.demand.proofs.Demand.{demand-3}
-use Rattle.demand.specs.SmallJobs.{squares, Expected, Line, table, Leaves, Fulfils, Holds, All}
+use Rattle.demand.specs.SmallJobs.{vector, local, one, squares, Line, table, Leaves, Holds, All}
+use Rattle.demand.specs.SmallJobs.Line.{_gives_}
 
 -- ---- the verdicts of all lines
--- the verdict of a reply
-abbrev verdictOf : Expected → Verdict
-verdictOf (Expected.judged v) = v
-verdictOf (Expected.computes z first values) = Accepted z
+-- the job that the 30 bytes are
+abbrev thirty : Job
+thirty = one 2 zeroVector (vector 1 1 0 0) (local (vector 0 1 0 0)) (vector 1 2 0 0) (vector 1 2 0 0)
+
+-- the job and the verdict of a line
+abbrev jobOf : Line → Job
+jobOf (j gives v) = j
+jobOf (Line.prints bytes v l) = thirty
+jobOf (Line.runs j z first values) = j
+
+abbrev verdictOf : Line → Verdict
+verdictOf (j gives v) = v
+verdictOf (Line.prints bytes v l) = v
+verdictOf (Line.runs j z first values) = Accepted z
 
 -- what the definitions come to, worked out for all lines together
-replies : map (λ (l : Line). answer (l .job) .0) table ≡ map (λ (l : Line). verdictOf (l .reply)) table
+replies : map (λ (l : Line). answer (jobOf l) .0) table ≡ map verdictOf table
 unfolding answer
 replies = refl
 
@@ -40,34 +60,47 @@ squares-leave first x y z ex ey ez rest = record { size = refl; each = at }
     at zero (suc (suc (suc k))) hs hk = absurd (omega arith)
     at (suc s) k hs hk = absurd (omega arith)
 
--- what is to be shown of the loop: nothing for a verdict, and the values for a run; then of the lines that follow
-abbrev With : Job → Expected → Type 0 → Type 0
-With j (Expected.judged v) More = More
-With j (Expected.computes z first values) More = Leaves j first values × More
+-- ---- the 30 bytes
+-- they are the file of a job within the limits, and its line is the one that is printed
+record Read (bytes : List ℕ) (v : Verdict) (l : List ℕ) : Type 0 where
+  within : Acceptable thirty
+  file : fileOf thirty ≡ bytes
+  line : l ≡ lineOf 2 v
+
+-- ---- what is to be shown of a line besides its verdict, and then of those that follow
+abbrev With : Line → Type 0 → Type 0
+With (j gives v) More = More
+With (Line.prints bytes v l) More = Read bytes v l × More
+With (Line.runs j z first values) More = Leaves j first values × More
 
 abbrev Left : List Line → Type 0
 Left [] = Unit {0}
-Left (l ∷ ls) = With (l .job) (l .reply) (Left ls)
+Left (l ∷ ls) = With l (Left ls)
 
--- for the table: the two runs
+-- for the table: the 30 bytes and the two runs
 left : Left table
-left = (squares-leave 1 2 6 42 refl refl refl, (squares-leave 4294967295 0 0 0 refl refl refl, tt))
+unfolding fileOf answer digits decimal wordBytes fieldsBytes coordinates pairFields lineFields lineOf
+left = (
+  record { within = past-limits (answer thirty .1) (inr (omega arith)) .0; file = refl; line = refl },
+  (squares-leave 1 2 6 42 refl refl refl, (squares-leave 4294967295 0 0 0 refl refl refl, tt)),
+)
 
 -- ---- together
--- a line with its verdict shown, and the loop's values if it is a run, holds: by demand 3 the array leaves the loop's values
-fulfils : (j : Job) (r : Expected) (More : Type 0) → Says j (verdictOf r) → With j r More → Fulfils j r × More
-fulfils j (Expected.judged v) More says left = (says, left)
-fulfils j (Expected.computes z first values) More says left = (
+-- a line with its verdict shown, and what is to be shown besides, holds: by demand 3 the array leaves the loop's values
+holds : (l : Line) (More : Type 0) → Says (jobOf l) (verdictOf l) → With l More → Holds l × More
+holds (j gives v) More says left = (says, left)
+holds (Line.prints bytes v l) More says left = let r = left .0 in ((inr (thirty, (r .within, r .file), says), inr (thirty, (r .within, r .file), (v, says, r .line))), left .1)
+holds (Line.runs j z first values) More says left = (
   (says, left .0, λ rest places before places′ after size ran. demand-3 j z says (first ∷ rest) places before places′ after values size ran (left .0 rest)),
   left .1,
 )
 
 -- where the answers are the replies, each line holds
-each : (ls : List Line) → map (λ (l : Line). answer (l .job) .0) ls ≡ map (λ (l : Line). verdictOf (l .reply)) ls → Left ls → All Holds ls
+each : (ls : List Line) → map (λ (l : Line). answer (jobOf l) .0) ls ≡ map verdictOf ls → Left ls → All Holds ls
 each [] e left = tt
 each (l ∷ ls) e left =
-    let h : answer (l .job) .0 ≡ verdictOf (l .reply) = cc in
-    let f = fulfils (l .job) (l .reply) (Left ls) (subst (Says (l .job)) h (answer (l .job) .1)) left in
+    let h : answer (jobOf l) .0 ≡ verdictOf l = cc in
+    let f = holds l (Left ls) (subst (Says (jobOf l)) h (answer (jobOf l) .1)) left in
     (f .0, each ls (ap tail e) (f .1))
 
 -- the claim: each line of the table holds

@@ -1,4 +1,4 @@
--- 'Small jobs with their replies': those that are marked *, one table and what is claimed of each line. Most lines end in a verdict, the last two in the values of a run.
+-- 'Small jobs with their replies': those that are marked *, one table and what is claimed of each line. Most lines are a verdict, one is of bytes, and the last two end in the values of a run.
 use mathlib.Core.Path.{_≡_}
 use mathlib.Core.List.{List, [], _∷_}
 use Prim.Native.Nat.{ℕ, _*_}
@@ -15,6 +15,7 @@ use Rattle.verdict.specs.declared.Verdict.the-variants.{Accepted, Precedence, H
 use Rattle.array.specs.Loops.{Looped}
 use Rattle.verdict.specs.Extents.{ticks}
 use Rattle.array.specs.Runs.{Ran}
+use Rattle.calls.specs.Bytes.{SaysOf, Prints}
 
 -- a vector of numbers that are not negative
 abbrev pub vector : ℕ → ℕ → ℕ → ℕ → Vector
@@ -54,22 +55,12 @@ cell p q = Cell (record { p = p; q = q })
 abbrev pub link : ℕ → Vector → Vector → ℤ → Verdict
 link s p q f = Link (record { stream = s; pair = record { p = p; q = q }; hops = f })
 
--- what is expected of a job: a verdict; or, accepted with a size, the values that are left where the input table begins with `first`
-pub data Expected : Type 0 where
-  judged : Verdict → Expected
-  computes : (z : Extent) (first : ℕ) (values : List ℕ) → Expected
-
--- a job and its reply
-pub record Line : Type 0 where
-  pub job : Job
-  pub reply : Expected
-
+-- a line of the table: a job and its verdict; the bytes of a file, their verdict and the line that they print; a job that is accepted with an extent, and the values that are left where the input table begins with `first`
 infix 70 _gives_
-abbrev pub _gives_ : Job → Verdict → Line
-j gives v = record { job = j; reply = Expected.judged v }
-
-abbrev pub runs : Job → Extent → ℕ → List ℕ → Line
-runs j z first values = record { job = j; reply = Expected.computes z first values }
+pub data Line : Type 0 where
+  _gives_ : Job → Verdict → Line
+  prints : (bytes : List ℕ) (verdict : Verdict) (line : List ℕ) → Line
+  runs : (j : Job) (z : Extent) (first : ℕ) (values : List ℕ) → Line
 
 -- 'Box 0..2, d (1), H and S (1), rule 1, sources 0 and 0'
 abbrev pub squares : Job
@@ -96,14 +87,17 @@ table =
     ∷ one 3 zeroVector (vector 1 1 1 0) (local (vector 1 0 0 0)) (vector 1 2 1 0) (vector 1 2 0 0) gives accepted 4 5 4
     -- 'First side 0..2: 11, pair 0 1 0 / 2 0 0'
     ∷ one 3 zeroVector (vector 2 1 1 0) (through (vector 1 0 0 0)) (vector 1 2 1 0) (vector 1 2 0 0) gives cell (vector 0 1 0 0) (vector 2 0 0 0)
-    -- 'The 30 bytes above': 'refused 12 stream 0 pair 0 1 / 1 0 hops -1'
-    ∷ one 2 zeroVector (vector 1 1 0 0) (local (vector 0 1 0 0)) (vector 1 2 0 0) (vector 1 2 0 0) gives link 0 (vector 0 1 0 0) (vector 1 0 0 0) (negsuc 0)
+    -- 'The 30 bytes above', read, judged and printed: `refused 12 stream 0 pair 0 1 / 1 0 hops -1`
+    ∷ Line.prints
+    (1 ∷ 0 ∷ 2 ∷ 1 ∷ 1 ∷ 0 ∷ 16 ∷ 0 ∷ 20 ∷ 0 ∷ 26 ∷ 0 ∷ 30 ∷ 0 ∷ 0 ∷ 0 ∷ 0 ∷ 1 ∷ 0 ∷ 1 ∷ 0 ∷ 1 ∷ 1 ∷ 0 ∷ 0 ∷ 0 ∷ 1 ∷ 2 ∷ 1 ∷ 2 ∷ [])
+    (link 0 (vector 0 1 0 0) (vector 1 0 0 0) (negsuc 0))
+    (114 ∷ 101 ∷ 102 ∷ 117 ∷ 115 ∷ 101 ∷ 100 ∷ 32 ∷ 49 ∷ 50 ∷ 32 ∷ 115 ∷ 116 ∷ 114 ∷ 101 ∷ 97 ∷ 109 ∷ 32 ∷ 48 ∷ 32 ∷ 112 ∷ 97 ∷ 105 ∷ 114 ∷ 32 ∷ 48 ∷ 32 ∷ 49 ∷ 32 ∷ 47 ∷ 32 ∷ 49 ∷ 32 ∷ 48 ∷ 32 ∷ 104 ∷ 111 ∷ 112 ∷ 115 ∷ 32 ∷ 45 ∷ 49 ∷ 10 ∷ [])
     -- 'Box 5..5, d (1), H (1), S (0): cells 1 ticks 1 room 1'
     ∷ one 1 (vector 5 0 0 0) (vector 5 0 0 0) (through (vector 1 0 0 0)) (vector 1 0 0 0) zeroVector gives accepted 1 1 1
     -- 'Box 0..2, d (1), H and S (1), rule 1, sources 0 and 0: input 1 gives 2, 6, 42' (the size is worked out here, not given there)
-    ∷ runs squares (size 3 3 3) 1 (2 ∷ 6 ∷ 42 ∷ [])
+    ∷ Line.runs squares (size 3 3 3) 1 (2 ∷ 6 ∷ 42 ∷ [])
     -- 'input 4294967295 gives 0, 0, 0'
-    ∷ runs squares (size 3 3 3) 4294967295 (0 ∷ 0 ∷ 0 ∷ [])
+    ∷ Line.runs squares (size 3 3 3) 4294967295 (0 ∷ 0 ∷ 0 ∷ [])
     ∷ []
 
 -- ---- the claim
@@ -116,13 +110,11 @@ abbrev pub RunLeaves : Job → ℕ → List ℕ → Type 0
 RunLeaves j first values =
     (rest places before places′ after : List ℕ) → length before ≡ j .m * points j → Ran j (first ∷ rest) places before (ticks j) places′ after → after ≡ values
 
--- a line holds: its verdict is the verdict on its job; or its job is accepted with its size, and loop and array leave its values
-abbrev pub Fulfils : Job → Expected → Type 0
-Fulfils j (Expected.judged v) = Says j v
-Fulfils j (Expected.computes z first values) = Says j (Accepted z) × Leaves j first values × RunLeaves j first values
-
+-- a line holds: its verdict is the verdict on its job, or on its bytes, which print its line; or its job is accepted with its extent, and loop and array leave its values
 abbrev pub Holds : Line → Type 0
-Holds l = Fulfils (l .job) (l .reply)
+Holds (j gives v) = Says j v
+Holds (Line.prints bytes v l) = SaysOf bytes v × Prints bytes l
+Holds (Line.runs j z first values) = Says j (Accepted z) × Leaves j first values × RunLeaves j first values
 
 -- a claim of each line
 abbrev pub All : (Line → Type 0) → List Line → Type 0

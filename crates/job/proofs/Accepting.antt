@@ -13,7 +13,7 @@ use Rattle.space.proofs.VectorLaws.{sized-up}
 use Rattle.space.specs.Boxes.{Solid, boxOf, In}
 use Rattle.space.proofs.BoxLaws.{inside-sized}
 use Rattle.job.specs.declared.Job.{Job}
-use Rattle.job.specs.Record.{FirstsFrom, streamsOf, rowsOf, noStream, zeroVector}
+use Rattle.job.specs.Record.{FirstsFrom, streamsOf, rowsOf, noStream, zeroVector, along}
 use Rattle.job.specs.Limits.{Acceptable, Unused, Sound, rowLimit}
 
 -- what holds of the first n, counted from k, holds of the one that stands i after k
@@ -34,6 +34,10 @@ module _ (j : Job) (a : Acceptable j) where
   -- a stream that is used keeps its line
   pub stream-sound : (s : ℕ) → s < j .m → Sound (j .m) (getD (streamsOf j) s noStream)
   stream-sound s h = let m = a .shaped .streams in firsts-at (Sound (j .m)) (j .m) 0 (streamsOf j) noStream s (a .sound) (omega arith) (omega arith)
+
+  -- and its d is small
+  pub along-sized : (s : ℕ) → s < j .m → Sized difference (along j s)
+  along-sized s h = sized-up (omega arith) (stream-sound s h .small)
 
   -- H, and a row of S that is used, is small
   pub row-sized : (i : ℕ) → i < 1 + j .k → Sized rowLimit (entries (getD (rowsOf j) i zeroVector))

@@ -1,6 +1,11 @@
 // The library for C, C++, Rust and Python: each function takes job bytes and answers in numbers. Names and types are those of include/najluthed.h.
+use array::lookup::Looked;
+use job::Counted;
 ghost use mathlib.Core.Path.{_≡_};
-ghost use Rattle.najluthed.specs.Calls.{AnswersVerdict, AnswersRoom, AnswersRun, AnswersTick, AnswersLoop, AnswersPoint};
+ghost use Prim.Native.Nat.{_≤_};
+ghost use lib.ListN.{length};
+ghost use Rattle.calls.specs.Bytes.{WritesOf};
+ghost use Rattle.najluthed.specs.Calls.{done, point, AnswersVerdict, AnswersSizes, AnswersRoom, AnswersRun, AnswersTick, AnswersLoop, AnswersPoint};
 
 // The number of refusal, 0 for accepted; stream and hops are 0 where the table lists none.
 #[repr(C)]
@@ -15,6 +20,18 @@ pub struct Judged {
 pub struct Done {
     pub number: u32,
     pub count: u64,
+}
+
+// The number of refusal, 0 for none; n, m and the points of a job within the limits; cells, ticks and room of an accepted array. What there is not is 0.
+#[repr(C)]
+pub struct Sizes {
+    pub number: u32,
+    pub dimensions: u32,
+    pub streams: u32,
+    pub points: u64,
+    pub cells: u64,
+    pub ticks: u64,
+    pub room: u64,
 }
 
 // The number of refusal, 0 for none; whether there is a point, 1 or 0; and its coordinates, 0 where there is none.
@@ -33,14 +50,40 @@ pub struct PointReply {
 pub extern "C" fn najluthed_verdict(job: &[u8]) -> Judged
     ensures { λ a. ⌜ AnswersVerdict (now (job .entry)) a ⌝ }
 {
-    let v = replies::bytes::verdict_of_bytes(job);
-    let judged = verdict::numbers::in_numbers(v);
-    let hops = judged.hops;
+    let told = verdict::numbers::in_numbers(calls::verdict_of_bytes(job));
+    let hops = told.hops;
     Judged {
-        number: wide(judged.number),
-        stream: wide(judged.stream),
+        number: wide(told.number),
+        stream: wide(told.stream),
         hops,
     }
+}
+
+// What a caller must know to lend tables.
+#[no_mangle]
+pub extern "C" fn najluthed_sizes(job: &[u8]) -> Sizes
+    ensures { λ a. ⌜ AnswersSizes (now (job .entry)) a ⌝ }
+{
+    let measures = calls::measures_of_bytes(job);
+    let extent = measures.extent;
+    Sizes {
+        number: wide(measures.number),
+        dimensions: wide(measures.dimensions),
+        streams: wide(measures.streams),
+        points: measures.points,
+        cells: extent.cells,
+        ticks: extent.ticks,
+        room: extent.room,
+    }
+}
+
+// The printed line, written to the front of a buffer that the longest line fits into: its length.
+#[no_mangle]
+pub extern "C" fn najluthed_line(job: &[u8], out: &mut [u8]) -> usize
+    ensures writes { λ r. ⌜ WritesOf (now (job .entry)) (now (out .entry)) r (now (out .exit)) ⌝ }
+    ensures inside { λ r. ⌜ r ≤ length (now (out .exit)) ⌝ }
+{
+    calls::line_of_bytes(&mut out[..], job)
 }
 
 // The room count, R.
@@ -48,11 +91,7 @@ pub extern "C" fn najluthed_verdict(job: &[u8]) -> Judged
 pub extern "C" fn najluthed_room(job: &[u8]) -> Done
     ensures { λ a. ⌜ AnswersRoom (now (job .entry)) a ⌝ }
 {
-    let counted = verdict::room::counted(replies::bytes::room_of_bytes(job));
-    Done {
-        number: wide(counted.number),
-        count: counted.count,
-    }
+    done_of(verdict::room::counted(calls::room_of_bytes(job)))
 }
 
 // A run: the tick count, or R for 14 and 15.
@@ -65,12 +104,8 @@ pub extern "C" fn najluthed_run(
 ) -> Done
     ensures { λ a. ⌜ AnswersRun (now (job .entry)) (now (input .entry)) (now (values .entry)) (now (places .entry)) (now (values .exit)) (now (places .exit)) a ⌝ }
 {
-    let r = array::run_of_bytes(job, input, &mut values[..], &mut places[..]);
-    let ran = checks::answer_of(r);
-    Done {
-        number: wide(ran.number),
-        count: ran.count,
-    }
+    let r = calls::run_of_bytes(job, input, &mut values[..], &mut places[..]);
+    done_of(checks::counted(r))
 }
 
 // A single tick, from the lent places as they are: the tick count, or R for 14 and 15.
@@ -84,12 +119,8 @@ pub extern "C" fn najluthed_tick(
 ) -> Done
     ensures { λ a. ⌜ AnswersTick tick (now (job .entry)) (now (input .entry)) (now (values .entry)) (now (places .entry)) (now (values .exit)) (now (places .exit)) a ⌝ }
 {
-    let r = array::tick_of_bytes(job, tick, input, &mut values[..], &mut places[..]);
-    let ticked = checks::answer_of(r);
-    Done {
-        number: wide(ticked.number),
-        count: ticked.count,
-    }
+    let r = calls::tick_of_bytes(job, tick, input, &mut values[..], &mut places[..]);
+    done_of(checks::counted(r))
 }
 
 // The loop: the point count.
@@ -97,17 +128,8 @@ pub extern "C" fn najluthed_tick(
 pub extern "C" fn najluthed_loop(job: &[u8], input: &[u32], values: &mut [u32]) -> Done
     ensures { λ a. ⌜ AnswersLoop (now (job .entry)) (now (input .entry)) (now (values .entry)) (now (values .exit)) a ⌝ }
 {
-    let r = array::loops::loop_of_bytes(job, input, &mut values[..]);
-    match r {
-        array::loops::LoopReply::Points(points) => Done {
-            number: 0,
-            count: points,
-        },
-        array::loops::LoopReply::Refused(number) => Done {
-            number: wide(number),
-            count: 0,
-        },
-    }
+    let r = calls::loop_of_bytes(job, input, &mut values[..]);
+    done_of(array::loops::counted(r))
 }
 
 // The point worked in a tick at a cell.
@@ -115,35 +137,31 @@ pub extern "C" fn najluthed_loop(job: &[u8], input: &[u32], values: &mut [u32]) 
 pub extern "C" fn najluthed_point(job: &[u8], tick: u64, cell: u64) -> PointReply
     ensures { λ a. ⌜ AnswersPoint (now (job .entry)) tick cell a ⌝ }
 {
-    let worked = array::lookup::point_at_bytes(job, tick, cell);
-    match worked {
-        array::lookup::Lookup::At(p) => PointReply {
-            number: 0,
-            found: 1,
-            x0: p.x0,
-            x1: p.x1,
-            x2: p.x2,
-            x3: p.x3,
-        },
-        array::lookup::Lookup::Nowhere => PointReply {
-            number: 0,
-            found: 0,
-            x0: 0,
-            x1: 0,
-            x2: 0,
-            x3: 0,
-        },
-        array::lookup::Lookup::Refused(v) => {
-            let refused = verdict::numbers::in_numbers(v);
-            PointReply {
-                number: wide(refused.number),
-                found: 0,
-                x0: 0,
-                x1: 0,
-                x2: 0,
-                x3: 0,
-            }
-        }
+    point_of(array::lookup::looked(calls::point_at_bytes(job, tick, cell)))
+}
+
+// A number and a count, for C.
+fn done_of(c: Counted) -> Done
+    ensures { λ a. ⌜ a ≡ done c ⌝ }
+{
+    Done {
+        number: wide(c.number),
+        count: c.count,
+    }
+}
+
+// What a look-up found, for C.
+fn point_of(l: Looked) -> PointReply
+    ensures { λ a. ⌜ a ≡ point l ⌝ }
+{
+    let p = l.point;
+    PointReply {
+        number: wide(l.number),
+        found: wide(l.found),
+        x0: p.x0,
+        x1: p.x1,
+        x2: p.x2,
+        x3: p.x3,
     }
 }
 

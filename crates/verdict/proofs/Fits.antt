@@ -13,18 +13,15 @@ use Rattle.space.proofs.VectorLaws.{sized-up, dot-size}
 use Rattle.job.specs.declared.Job.{Job}
 use Rattle.job.specs.declared.Stream.{Stream}
 use Rattle.job.specs.Limits.{Acceptable, rowLimit}
-use Rattle.job.proofs.Accepting.{stream-sound, time-sized, row0-sized, row1-sized, solid}
-use Rattle.job.specs.Record.{along, box, stream}
+use Rattle.job.proofs.Accepting.{along-sized, time-sized, row0-sized, row1-sized, solid}
+use Rattle.job.specs.Record.{box, stream}
 use Rattle.verdict.specs.Courses.{timeAndPlace}
 use Rattle.space.proofs.BoxLaws.{solid-count}
 
 module _ (j : Job) (a : Acceptable j) where
-  pub along-sized : (s : ℕ) → s < j .m → Sized difference (along j s)
-  along-sized s h = sized-up (omega arith) (stream-sound j a s h .small)
-
   -- H and d, as the stream that was read has it, are small enough for their product
   pub time-along : (s : ℕ) → s < j .m → {t : Stream} → t ≡ stream j s → Sized limit (entries (j .time)) × Sized limit (entries (t .d))
-  time-along s h e = (sized-up (omega arith) (time-sized j a), rw e (sized-up (omega arith) (along-sized s h)))
+  time-along s h e = (sized-up (omega arith) (time-sized j a), rw e (sized-up (omega arith) (along-sized j a s h)))
 
   -- Hx and Sx of a difference or of d
   pub placed-sized : (x : List ℤ) → Sized difference x → Sized limit (timeAndPlace j x)

@@ -31,7 +31,8 @@ use Rattle.verdict.specs.Collisions.{IsCollision}
 use Rattle.verdict.specs.Courses.{timeAndPlace}
 use Rattle.verdict.specs.Searches.{CollidesBy}
 use Rattle.verdict.proofs.Courses.{hop-nonzero, g-is}
-use Rattle.verdict.proofs.Fits.{along-sized, placed-sized}
+use Rattle.job.proofs.Accepting.{along-sized}
+use Rattle.verdict.proofs.Fits.{placed-sized}
 
 -- ---- which multiple: the second variant is No, and no other is
 pub tag-none : (m : Multiple) → tagOf the-type m ≡ 1 → m ≡ Multiple.No

@@ -37,10 +37,10 @@ FirstCollision j c =
     × Collides j (c .stream) (entries (c .pair .p)) (entries (c .pair .q)) (c .hops)
 
 -- 'No.' and 'Returns besides': 'the number is 0 for accepted, and stream and f are 0 where the table lists none', and so are the points and the sizes
-abbrev noPair : Pair
+abbrev pub noPair : Pair
 noPair = record { p = zeroVector; q = zeroVector }
 
-abbrev noExtent : Extent
+abbrev pub noExtent : Extent
 noExtent = record { cells = 0; ticks = 0; room = 0 }
 
 abbrev pub inNumbers : Verdict → InNumbers

@@ -6,9 +6,8 @@ use Rattle.space.specs.Vectors.{entries, Sized}
 use Rattle.space.specs.Boxes.{backOf}
 use Rattle.job.specs.declared.Stream.{Stream}
 use Rattle.job.specs.Record.{box}
-use Rattle.job.proofs.Accepting.{walkable}
+use Rattle.job.proofs.Accepting.{walkable, along-sized}
 use Rattle.space.proofs.BoxLaws.{stands-in}
-use Rattle.verdict.proofs.Fits.{along-sized}
 use Rattle.tables.proofs.previous_at.Statement.{statement}
 use Rattle.tables.proofs.previous_at.Tie as tie
 

@@ -13,7 +13,7 @@ use Rattle.job.specs.Record.{along}
 use Rattle.verdict.specs.Mapping.{H, g, orOne, hops}
 use Rattle.verdict.specs.Courses.{timeAndPlace}
 use Rattle.verdict.proofs.Courses.{hops-some}
-use Rattle.verdict.proofs.Fits.{along-sized}
+use Rattle.job.proofs.Accepting.{along-sized}
 use Rattle.verdict.proofs.Meetings.{course-sized, hops-sized, g-answered}
 use Rattle.verdict.proofs.course.course_of.Statement.{statement}
 use Rattle.verdict.proofs.course.course_of.Tie as tie

@@ -13,8 +13,8 @@ use Rattle.space.proofs.VectorLaws.{sized-up}
 use Rattle.space.proofs.OrderLaws.{forward-nonzero}
 use Rattle.job.specs.declared.Stream.{Stream}
 use Rattle.verdict.specs.Courses.{timeAndPlace}
-use Rattle.job.proofs.Accepting.{stream-sound}
-use Rattle.verdict.proofs.Fits.{placed-sized, along-sized}
+use Rattle.job.proofs.Accepting.{stream-sound, along-sized}
+use Rattle.verdict.proofs.Fits.{placed-sized}
 use Rattle.verdict.proofs.Meetings.{tag-none, answers-as, unit-of, unit-sized, unit-nonzero, met, not-met, none-met}
 use Rattle.verdict.proofs.walk.collision_hops.Statement.{statement}
 use Rattle.verdict.proofs.walk.collision_hops.Tie as tie
