@@ -1,4 +1,4 @@
--- Laws of checks in order: one number alone is given, it is 0 exactly if all conditions hold, and one list of checks after another.
+-- Laws of checks in order: one number alone is given, it is 0 exactly if all conditions hold and else that of a check, and one list of checks after another.
 use mathlib.Core.Path.{_≡_, refl, sym, subst, _∙_}
 use mathlib.Core.Logic.{inl, inr}
 use Prim.Native.Nat.{ℕ}
@@ -19,10 +19,14 @@ abbrev pub Passes : Checks → Type 0
 Passes done = Unit {0}
 Passes (check n P rest) = P × Passes rest
 
+-- of the number of every check
+abbrev pub Each : (ℕ → Type 0) → Checks → Type 0
+Each Q done = Unit {0}
+Each Q (check n P rest) = Q n × Each Q rest
+
 -- no number of a check is 0
 abbrev Numbered : Checks → Type 0
-Numbered done = Unit {0}
-Numbered (check n P rest) = (n ≡ 0 → ⊥) × Numbered rest
+Numbered = Each (λ (n : ℕ). (n ≡ 0 → ⊥))
 
 passes-first : (cs : Checks) → Passes cs → First cs 0
 passes-first done p = refl
@@ -32,6 +36,12 @@ pub first-passes : (cs : Checks) → Numbered cs → First cs 0 → Passes cs
 first-passes done z p = tt
 first-passes (check n P rest) z (inl p) = (p .0, first-passes rest (z .1) (p .1))
 first-passes (check n P rest) z (inr p) = absurd (z .0 (sym (p .1)))
+
+-- a number that refuses is that of a check
+pub number-of : (Q : ℕ → Type 0) (cs : Checks) {r : ℕ} → Each Q cs → (r ≡ 0 → ⊥) → First cs r → Q r
+number-of Q done q z p = absurd (z p)
+number-of Q (check n P rest) q z (inl p) = number-of Q rest (q .1) z (p .1)
+number-of Q (check n P rest) q z (inr p) = subst Q (sym (p .1)) (q .0)
 
 -- past the first checks, the reply is that of the others
 pub then-first : (cs ds : Checks) (r : ℕ) → Passes cs → First ds r → First (andThen cs ds) r
@@ -44,15 +54,22 @@ stop-first done ds r z p = absurd (z p)
 stop-first (check n P rest) ds r z (inl p) = inl (p .0, stop-first rest ds r z (p .1))
 stop-first (check n P rest) ds r z (inr p) = inr p
 
--- a record is acceptable exactly if no limit refuses it
-pub accepted : (j : Job) {r : ℕ} → r ≡ 0 → First (limits j) r → Acceptable j
-accepted j e f = by (first-passes (limits j) ((λ e. omega arith), ((λ e. omega arith), ((λ e. omega arith), ((λ e. omega arith), tt)))) (subst (First (limits j)) e f))
-  where
-    by : Passes (limits j) → Acceptable j
-    by p = record { shaped = p .0; boxed = p .1 .0; sound = p .1 .1 .0; rowed = p .1 .1 .1 .0 }
+-- a number that is none of the first checks' is given past them
+pub past-first : (cs ds : Checks) (r : ℕ) → Each (λ (n : ℕ). (r ≡ n → ⊥)) cs → First (andThen cs ds) r → Passes cs × First ds r
+past-first done ds r o p = (tt, p)
+past-first (check n P rest) ds r o (inl p) = let q = past-first rest ds r (o .1) (p .1) in ((p .0, q .0), q .1)
+past-first (check n P rest) ds r o (inr p) = absurd (o .0 (p .1))
+
+-- a record is acceptable exactly if it passes the limits
+pub within : {j : Job} → Passes (limits j) → Acceptable j
+within p = record { shaped = p .0; boxed = p .1 .0; sound = p .1 .1 .0; rowed = p .1 .1 .1 .0 }
 
 pub passes : {j : Job} → Acceptable j → Passes (limits j)
 passes a = (a .shaped, (a .boxed, (a .sound, (a .rowed, tt))))
+
+-- and exactly if none of them refuses it
+pub accepted : (j : Job) {r : ℕ} → r ≡ 0 → First (limits j) r → Acceptable j
+accepted j e f = within (first-passes (limits j) ((λ e. omega arith), ((λ e. omega arith), ((λ e. omega arith), ((λ e. omega arith), tt)))) (subst (First (limits j)) e f))
 
 pub acceptable : (j : Job) → Acceptable j → First (limits j) 0
 acceptable j a = passes-first (limits j) (passes a)
