@@ -10,7 +10,7 @@ use Rattle.job.specs.Refusals.{First}
 use Rattle.verdict.specs.Verdicts.{Says}
 use Rattle.verdict.specs.declared.Extent.{Extent}
 use Rattle.verdict.specs.declared.Verdict.the-variants.{Accepted}
-use Rattle.verdict.proofs.Accepted.{accepted-limits, accepted-ahead}
+use Rattle.verdict.proofs.Accepted.{accepted-limits, accepted-ahead, accepted-even}
 use Rattle.frame.specs.declared.Frame.{Frame}
 use Rattle.frame.specs.Framing.{Framed}
 use Rattle.array.specs.Steps.{Runnable, Tabled, Roomy}
@@ -20,7 +20,7 @@ use Rattle.checks.proofs.AnswerLaws.{passed}
 -- an accepted job may run if its room is inside the size limit
 pub accepted-runs : {j : Job} {z : Extent} → Says j (Accepted z) → z .room ≤ 8192 → Runnable j
 accepted-runs {j} {z} s h =
-    record { acceptable = accepted-limits s; ahead = accepted-ahead s .1; even = s .kept .0 .0 .1; few = subst (λ (n : ℕ). n ≤ 8192) (s .claim .room) h }
+    record { acceptable = accepted-limits s; ahead = accepted-ahead s .1; even = accepted-even s; few = subst (λ (n : ℕ). n ≤ 8192) (s .claim .room) h }
 
 -- ---- all checks passed
 module _ {j : Job} {z : Extent} (s : Says j (Accepted z)) {a b n : ℕ} (p : First (runChecks j a b n z) 0) where

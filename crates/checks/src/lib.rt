@@ -34,7 +34,7 @@ pub fn answer_of(r: RunReply) -> Answer
             count: n,
         },
         RunReply::Refused(v) => {
-            let a = replies::numbers::answer_of(v);
+            let a = verdict::numbers::in_numbers(v);
             Answer {
                 number: a.number,
                 count: 0,

@@ -20,18 +20,17 @@ use Rattle.space.proofs.PairLaws.{startOf, start-in, start-least, in-apart, apa
 use Rattle.space.proofs.PairLaws as PairLaws
 use Rattle.job.specs.declared.Job.{Job}
 use Rattle.job.specs.Refusals.{First}
-use Rattle.job.specs.Limits.{limits}
+use Rattle.job.specs.Limits.{limits, Acceptable}
 use Rattle.job.proofs.Refusing.{accepted}
 use Rattle.job.specs.Record.{box, stream, along}
 use Rattle.verdict.specs.Mapping.{H, S, g, Stationary}
 use Rattle.verdict.specs.Collisions.{IsCollision, senders}
 use Rattle.verdict.specs.Courses.{timeAndPlace}
-use Rattle.verdict.specs.Walks.{Still, CollidesBy, CollidesBySome, FindsGap}
 use Rattle.verdict.specs.declared.walk.FoundGap.{FoundGap}
 use Rattle.verdict.specs.declared.walk.FoundGap.the-variants as FoundGap
-use Rattle.verdict.specs.Rules.{Ahead, Even, Collides, Clear, Keeps, ExtentOf}
+use Rattle.verdict.specs.Rules.{Ahead, Even, SameCell, Collides, Clear, All}
 use Rattle.verdict.specs.Verdicts.{Lowest, FirstPair, Says}
-use Rattle.verdict.specs.Searches.{FindsStream, FindsPair, FindsCollisionOn, FindsCollision}
+use Rattle.verdict.specs.Searches.{Still, CollidesBy, CollidesBySome, FindsStream, FindsGap, FindsPair, FindsCollisionOn, FindsCollision}
 use Rattle.verdict.specs.declared.Extent.{Extent}
 use Rattle.verdict.specs.declared.Pair.{Pair}
 use Rattle.verdict.specs.declared.Verdict.{Verdict}
@@ -48,7 +47,8 @@ use Rattle.verdict.proofs.Gaps.{zerosOf, Spread, Passed, passed-first, passed-m
 use Rattle.verdict.proofs.Gaps as Gaps
 use Rattle.verdict.proofs.Meetings.{unit-of, unit-nonzero, apart-times, times-apart}
 use Rattle.verdict.proofs.FirstPairs.{ByGap, cell-by-gap, link-by-gap, meets-meeting, no-pair, first-pair}
-use Rattle.verdict.specs.Extents.{cells, ticks, room}
+use Rattle.verdict.specs.Extents.{cells, ticks, room, ExtentOf}
+use Rattle.verdict.proofs.Saying.{says-limit, says-precedence, says-hop, says-cell, says-link, says-accepted}
 
 -- ---- precedence and hop: the lowest of m streams of which P does not hold
 module _ (P : ℕ → Type 0) (d : (t : ℕ) → Decided (P t)) where
@@ -273,38 +273,36 @@ abbrev Answer : Job → Type 0
 Answer j = (v : Verdict) × Says j v
 
 module _ (j : Job) where
-  -- the link rule, or accepted
-  unfoldable past-cell : Solid (box j) → Keeps j 4 → (c : FoundCollision) → FindsCollision j c → Answer j
-  unfolding size
-  past-cell h k (FoundCollision.At c) w = (Link c, record { kept = k; claim = w })
-  past-cell h k FoundCollision.Nowhere w = let z = size j in (Accepted (z .0), record { kept = (k, w); claim = z .1 })
+  module _ (a : Acceptable j) where
+    -- the link rule, or accepted
+    unfoldable past-cell : All Ahead j → All Even j → ((p q : List ℤ) → SameCell j p q → ⊥) → (c : FoundCollision) → FindsCollision j c → Answer j
+    unfolding size
+    past-cell ahead even apart (FoundCollision.At c) w = (Link c, says-link a ahead even apart w)
+    past-cell ahead even apart FoundCollision.Nowhere w = let z = size j in (Accepted (z .0), says-accepted a ahead even apart w (z .1))
 
-  -- the cell rule
-  unfoldable past-hop : Solid (box j) → Keeps j 3 → (c : FoundPair) → FindsPair j c → Answer j
-  unfolding first-collision past-cell
-  past-hop h k (FoundPair.At c) w = (Cell c, record { kept = k; claim = w })
-  past-hop h k FoundPair.Nowhere w = let r = first-collision j h in past-cell h (k, w) (r .0) (r .1)
+    -- the cell rule
+    unfoldable past-hop : All Ahead j → All Even j → (c : FoundPair) → FindsPair j c → Answer j
+    unfolding first-collision past-cell
+    past-hop ahead even (FoundPair.At c) w = (Cell c, says-cell a ahead even w)
+    past-hop ahead even FoundPair.Nowhere w = let r = first-collision j (a .boxed .solid) in past-cell ahead even w (r .0) (r .1)
 
-  -- the hop rule
-  unfoldable past-precedence : Solid (box j) → Keeps j 2 → (r : FoundStream) → FindsStream (Even j) (j .m) r → Answer j
-  unfolding crowd past-hop
-  past-precedence h k (FoundStream.At s) w = (Hop s, record { kept = k; claim = w })
-  past-precedence h k FoundStream.Nowhere w = let r = crowd j h in past-hop h (k, w) (r .0) (r .1)
+    -- the hop rule
+    unfoldable past-precedence : All Ahead j → (r : FoundStream) → FindsStream (Even j) (j .m) r → Answer j
+    unfolding crowd past-hop
+    past-precedence ahead (FoundStream.At s) w = (Hop s, says-hop a ahead w)
+    past-precedence ahead FoundStream.Nowhere w = let r = crowd j (a .boxed .solid) in past-hop ahead w (r .0) (r .1)
 
-  -- precedence
-  unfoldable past-limits : Solid (box j) → Keeps j 1 → (r : FoundStream) → FindsStream (Ahead j) (j .m) r → Answer j
-  unfolding even past-precedence
-  past-limits h k (FoundStream.At s) w = (Precedence s, record { kept = k; claim = w })
-  past-limits h k FoundStream.Nowhere w = let r = lowest-of (Even j) (even j) (j .m) in past-precedence h (k, w) (r .0) (r .1)
+    -- precedence
+    unfoldable past-limits : (r : FoundStream) → FindsStream (Ahead j) (j .m) r → Answer j
+    unfolding even past-precedence
+    past-limits (FoundStream.At s) w = (Precedence s, says-precedence a w)
+    past-limits FoundStream.Nowhere w = let r = lowest-of (Even j) (even j) (j .m) in past-precedence w (r .0) (r .1)
 
   -- the limits
   unfoldable from-start : (r : ℕ) → First (limits j) r → Answer j
   unfolding ahead past-limits
-  from-start (suc n) w = (Limit (suc n), record { kept = tt; claim = (w, λ e. omega arith) })
-  from-start zero w =
-      let a = accepted j refl w in
-      let r = lowest-of (Ahead j) (ahead j) (j .m) in
-      past-limits (a .boxed .solid) (tt, a) (r .0) (r .1)
+  from-start (suc n) w = (Limit (suc n), says-limit (w, λ e. omega arith))
+  from-start zero w = let r = lowest-of (Ahead j) (ahead j) (j .m) in past-limits (accepted j refl w) (r .0) (r .1)
 
 -- the verdict on a record
 unfoldable pub answer : (j : Job) → Answer j

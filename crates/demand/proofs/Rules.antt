@@ -13,6 +13,7 @@ use Rattle.job.specs.Record.{stream, along}
 use Rattle.verdict.specs.Mapping.{H, g, orOne, hops, delay, w}
 use Rattle.verdict.specs.Collisions.{IsCollision}
 use Rattle.verdict.proofs.Courses.{stationary-none, hops-some}
+use Rattle.verdict.proofs.Accepted.{accepted-limits, accepted-ahead, accepted-even, accepted-cells, accepted-clear}
 use Rattle.verdict.specs.Verdicts.{Says}
 use Rattle.verdict.specs.declared.Extent.{Extent}
 use Rattle.verdict.specs.declared.Verdict.the-variants.{Accepted}
@@ -22,16 +23,16 @@ use Rattle.demand.proofs.Obeys.{Moving, HopsApart, Obeys}
 module _ (j : Job) (z : Extent) (y : Says j (Accepted z)) where
   -- no two points are f hops apart where f makes that a collision
   never : (s : ℕ) → s < j .m → Moving j s → (p q : List ℤ) (f : ℤ) → HopsApart j s p q f → IsCollision (stream j s .kind) (along j s) (g j s) (minusOf q p) f → ⊥
-  never s l moving p q f a c = y .kept .1 s l p q f (record { moving = moving; pair = a .pair; place = a .place; time = a .time; collide = c })
+  never s l moving p q f a c = accepted-clear y s l p q f (record { moving = moving; pair = a .pair; place = a .place; time = a .time; collide = c })
 
   -- an accepted job keeps them all. Each is shown from what it supposes, so that a weaker rule is shown here too, and refused where the theorem needs the stronger
   pub rules-kept : Obeys j
   rules-kept =
       record {
-        limits = y .kept .0 .0 .0 .0 .1;
-        precedence = λ s l. let h = y .kept .0 .0 .0 .1 s l in omega int;
-        hop = λ s l moving. y .kept .0 .0 .1 s l moving;
-        cell = λ p q pair time place. absurd (y .kept .0 .1 p q (record { pair = pair; time = time; place = place }));
+        limits = accepted-limits y;
+        precedence = λ s l. let h = accepted-ahead y .1 s l in omega int;
+        hop = λ s l moving. accepted-even y s l moving;
+        cell = λ p q pair time place. absurd (accepted-cells y p q (record { pair = pair; time = time; place = place }));
         link-local = λ s l kind moving p q f a low high. absurd (never s l moving p q f a (rw kind (omega arith, omega arith)));
         link-through = λ s l kind moving p q f a none. absurd (never s l moving p q f a (rw kind none));
       }

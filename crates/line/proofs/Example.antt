@@ -1,7 +1,9 @@
 -- 'The 30 bytes .. print `refused 12 stream 0 pair 0 1 / 1 0 hops -1`', and one accepted line, from the definitions.
 use mathlib.Core.Path.{_≡_, refl, subst}
+use mathlib.Core.Logic.{inr}
 use mathlib.Core.List.{List, [], _∷_}
 use Prim.Native.Nat.{ℕ}
+use native.Mathlib.Omega.{arith}
 use lib.IntN.{pos, negsuc}
 use Rattle.space.specs.declared.Vector.{Vector}
 use Rattle.job.specs.declared.Job.{Job}
@@ -12,6 +14,7 @@ use Rattle.reader.specs.declared.Reading.the-variants as Reading
 use Rattle.verdict.specs.Verdicts.{Says}
 use Rattle.verdict.specs.declared.Verdict.{Verdict}
 use Rattle.verdict.specs.declared.Verdict.the-variants.{Accepted, Link}
+use Rattle.verdict.proofs.Accepted.{past-limits}
 use Rattle.decisions.proofs.Answer.{answer}
 use Rattle.print.specs.Decimal.{digits, decimal}
 use Rattle.print.specs.Words.{wordBytes}
@@ -54,7 +57,7 @@ says = answer job .1
 
 reads : Reads bytes (Reading.Job job)
 unfolding fileOf
-reads = (says .kept .0 .0 .0 .1, refl)
+reads = (past-limits says (inr (omega arith)) .0, refl)
 
 line-is : lineOf 2 verdict ≡ line
 unfolding digits decimal wordBytes fieldsBytes coordinates pairFields lineFields lineOf

@@ -4,10 +4,12 @@ use mathlib.Core.List.{List}
 use Prim.Native.Nat.{ℕ}
 use lib.IntN.{ℤ, pos}
 use Rattle.replies.specs.Bytes.{SaysOf}
-use Rattle.verdict.specs.Verdicts.{numberOf, streamOf, hopsOf}
-use Rattle.replies.specs.declared.bytes.Room.{Room}
-use Rattle.replies.specs.declared.bytes.Room.the-variants as Room
-use Rattle.replies.proofs.Unique.{says-of-unique, counts-unique}
+use Rattle.verdict.specs.Verdicts.{inNumbers, numberOf}
+use Rattle.verdict.specs.Rooms.{countedOf}
+use Rattle.verdict.specs.declared.Verdict.{Verdict}
+use Rattle.verdict.specs.declared.room.Room.{Room}
+use Rattle.verdict.proofs.Unique.{counts-unique}
+use Rattle.replies.proofs.Unique.{says-of-unique}
 use Rattle.checks.specs.Answers.{numberOf as numberIn, countIn}
 use Rattle.checks.specs.declared.RunReply.{RunReply}
 use Rattle.array.specs.declared.lookup.Lookup.{Lookup}
@@ -20,7 +22,7 @@ use Rattle.array.proofs.LoopUnique.{loops-of-unique}
 use Rattle.najluthed.specs.declared.Judged.{Judged}
 use Rattle.najluthed.specs.declared.Done.{Done}
 use Rattle.najluthed.specs.declared.PointReply.{PointReply}
-use Rattle.najluthed.specs.Calls.{AnswersVerdict, AnswersRoom, AnswersRun, AnswersTick, AnswersLoop, AnswersPoint, Gives, GivesRoom, GivesPoints, GivesAt, GivesPoint}
+use Rattle.najluthed.specs.Calls.{AnswersVerdict, AnswersRoom, AnswersRun, AnswersTick, AnswersLoop, AnswersPoint, Gives, GivesPoints, GivesAt, GivesPoint}
 
 -- one number and one count make one answer
 same-done : (n c : ℕ) (a b : Done) → Gives n c a → Gives n c b → a ≡ b
@@ -29,17 +31,13 @@ same-done n c a b p q = ap₂ (λ (x y : ℕ). record { number = x; count = y })
 pub answers-verdict-unique : (s : List ℕ) (a b : Judged) → AnswersVerdict s a → AnswersVerdict s b → a ≡ b
 answers-verdict-unique s a b p q =
     let e = says-of-unique s (p .0) (q .0) (p .1) (q .1) in
-    ap₂ (λ (x y : ℕ). record { number = x; stream = y; hops = a .hops }) (p .2 ∙ ap numberOf e ∙ sym (q .2)) (p .3 ∙ ap streamOf e ∙ sym (q .3))
-    ∙ ap (λ (z : ℤ). record { number = b .number; stream = b .stream; hops = z }) (p .4 ∙ ap hopsOf e ∙ sym (q .4))
-
-same-room : (r : Room) (a b : Done) → GivesRoom r a → GivesRoom r b → a ≡ b
-same-room (Room.Places n) a b = same-done 0 n a b
-same-room (Room.Refused v) a b = same-done (numberOf v) 0 a b
+    ap₂ (λ (x y : ℕ). record { number = x; stream = y; hops = a .hops }) (p .2 ∙ ap numberOf e ∙ sym (q .2)) (p .3 ∙ ap (λ (v : Verdict). inNumbers v .stream) e ∙ sym (q .3))
+    ∙ ap (λ (z : ℤ). record { number = b .number; stream = b .stream; hops = z }) (p .4 ∙ ap (λ (v : Verdict). inNumbers v .hops) e ∙ sym (q .4))
 
 pub answers-room-unique : (s : List ℕ) (a b : Done) → AnswersRoom s a → AnswersRoom s b → a ≡ b
 answers-room-unique s a b p q =
     let e = counts-unique (SaysOf s) (says-of-unique s) (p .0) (q .0) (p .1) (q .1) in
-    same-room (q .0) a b (subst (λ (r : Room). GivesRoom r a) e (p .2)) (q .2)
+    same-done (countedOf (q .0) .number) (countedOf (q .0) .count) a b (subst (λ (r : Room). Gives (countedOf r .number) (countedOf r .count) a) e (p .2)) (q .2)
 
 same-points : (r : LoopReply) (a b : Done) → GivesPoints r a → GivesPoints r b → a ≡ b
 same-points (Loop.Points n) a b = same-done 0 n a b

@@ -4,11 +4,11 @@ use mathlib.Core.List.{List}
 use Prim.Native.Nat.{ℕ}
 use lib.IntN.{ℤ, pos}
 use Rattle.job.specs.declared.Job.{Job}
-use Rattle.verdict.specs.Verdicts.{numberOf, streamOf, hopsOf}
-use Rattle.replies.specs.Bytes.{SaysOf, Counts}
+use Rattle.verdict.specs.Verdicts.{inNumbers, numberOf}
+use Rattle.verdict.specs.Rooms.{Counts, countedOf}
+use Rattle.replies.specs.Bytes.{SaysOf}
 use Rattle.verdict.specs.declared.Verdict.{Verdict}
-use Rattle.replies.specs.declared.bytes.Room.{Room}
-use Rattle.replies.specs.declared.bytes.Room.the-variants as Room
+use Rattle.verdict.specs.declared.room.Room.{Room}
 use Rattle.array.specs.LoopBytes.{LoopsOf}
 use Rattle.array.specs.declared.loops.LoopReply.{LoopReply}
 use Rattle.array.specs.declared.loops.LoopReply.the-variants as Loop
@@ -24,19 +24,15 @@ use Rattle.najluthed.specs.declared.PointReply.{PointReply}
 
 -- the verdict on the bytes in three numbers
 abbrev pub AnswersVerdict : List ℕ → Judged → Type 0
-AnswersVerdict s a = (v : Verdict) × SaysOf s v × (a .number ≡ numberOf v) × (a .stream ≡ streamOf v) × (a .hops ≡ hopsOf v)
+AnswersVerdict s a = (v : Verdict) × SaysOf s v × (a .number ≡ inNumbers v .number) × (a .stream ≡ inNumbers v .stream) × (a .hops ≡ inNumbers v .hops)
 
 -- a number of refusal, 0 for none, and a count
 abbrev pub Gives : ℕ → ℕ → Done → Type 0
 Gives number count a = (a .number ≡ number) × (a .count ≡ count)
 
 -- the room count: R, and 0 for a refusal
-abbrev pub GivesRoom : Room → Done → Type 0
-GivesRoom (Room.Places places) = Gives 0 places
-GivesRoom (Room.Refused v) = Gives (numberOf v) 0
-
 abbrev pub AnswersRoom : List ℕ → Done → Type 0
-AnswersRoom s a = (r : Room) × Counts (SaysOf s) r × GivesRoom r a
+AnswersRoom s a = (r : Room) × Counts (SaysOf s) r × Gives (countedOf r .number) (countedOf r .count) a
 
 -- the run, and what it leaves in the values and the places
 abbrev pub AnswersRun : List ℕ → List ℕ → List ℕ → List ℕ → List ℕ → List ℕ → Done → Type 0

@@ -1,5 +1,4 @@
 // The library for C, C++, Rust and Python: each function takes job bytes and answers in numbers. Names and types are those of include/najluthed.h.
-use replies::bytes::Room;
 ghost use mathlib.Core.Path.{_≡_};
 ghost use Rattle.najluthed.specs.Calls.{AnswersVerdict, AnswersRoom, AnswersRun, AnswersTick, AnswersLoop, AnswersPoint};
 
@@ -35,7 +34,7 @@ pub extern "C" fn najluthed_verdict(job: &[u8]) -> Judged
     ensures { λ a. ⌜ AnswersVerdict (now (job .entry)) a ⌝ }
 {
     let v = replies::bytes::verdict_of_bytes(job);
-    let judged = replies::numbers::answer_of(v);
+    let judged = verdict::numbers::in_numbers(v);
     let hops = judged.hops;
     Judged {
         number: wide(judged.number),
@@ -49,19 +48,10 @@ pub extern "C" fn najluthed_verdict(job: &[u8]) -> Judged
 pub extern "C" fn najluthed_room(job: &[u8]) -> Done
     ensures { λ a. ⌜ AnswersRoom (now (job .entry)) a ⌝ }
 {
-    let room = replies::bytes::room_of_bytes(job);
-    match room {
-        Room::Places(places) => Done {
-            number: 0,
-            count: places,
-        },
-        Room::Refused(v) => {
-            let refused = replies::numbers::answer_of(v);
-            Done {
-                number: wide(refused.number),
-                count: 0,
-            }
-        }
+    let counted = verdict::room::counted(replies::bytes::room_of_bytes(job));
+    Done {
+        number: wide(counted.number),
+        count: counted.count,
     }
 }
 
@@ -144,7 +134,7 @@ pub extern "C" fn najluthed_point(job: &[u8], tick: u64, cell: u64) -> PointRepl
             x3: 0,
         },
         array::lookup::Lookup::Refused(v) => {
-            let refused = replies::numbers::answer_of(v);
+            let refused = verdict::numbers::in_numbers(v);
             PointReply {
                 number: wide(refused.number),
                 found: 0,

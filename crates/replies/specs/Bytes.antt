@@ -1,4 +1,4 @@
--- The verdict on job bytes, and the room count: 'Verdict and room count use 1 to 12'.
+-- The verdict on job bytes: 'Verdict and room count use 1 to 12'.
 use mathlib.Core.Path.{_≡_}
 use mathlib.Core.List.{List}
 use Prim.Native.Nat.{ℕ}
@@ -6,23 +6,8 @@ use Rattle.job.specs.declared.Job.{Job}
 use Rattle.reader.specs.Reading.{OfBytes}
 use Rattle.verdict.specs.Verdicts.{Says}
 use Rattle.verdict.specs.declared.Verdict.{Verdict}
-use Rattle.verdict.specs.declared.Verdict.the-variants.{Accepted, Limit, Precedence, Hop, Cell, Link}
-use Rattle.replies.specs.declared.bytes.Room.{Room}
-use Rattle.replies.specs.declared.bytes.Room.the-variants.{Places, Refused}
+use Rattle.verdict.specs.declared.Verdict.the-variants.{Limit}
 
 -- v is the verdict on the bytes: the reader's refusal, or the verdict on the job that they are
 abbrev pub SaysOf : List ℕ → Verdict → Type 0
 SaysOf s v = OfBytes s (λ (number : ℕ). v ≡ Limit number) (λ (j : Job). Says j v)
-
--- the room of a verdict
-abbrev pub roomOf : Verdict → Room
-roomOf (Accepted z) = Places (z .room)
-roomOf (Limit r) = Refused (Limit r)
-roomOf (Precedence s) = Refused (Precedence s)
-roomOf (Hop s) = Refused (Hop s)
-roomOf (Cell c) = Refused (Cell c)
-roomOf (Link c) = Refused (Link c)
-
--- r is the room count of what the verdict is said of
-abbrev pub Counts : (Verdict → Type 0) → Room → Type 0
-Counts Is r = (v : Verdict) × Is v × (r ≡ roomOf v)

@@ -1,3 +1,2 @@
-// The verdict in numbers and on job bytes, and the room count.
+// The verdict and the room count on job bytes.
 pub mod bytes;
-pub mod numbers;

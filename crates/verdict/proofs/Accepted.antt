@@ -1,12 +1,17 @@
 -- What an accepted verdict gives, and that no refusal stands beside it.
-use mathlib.Core.Path.{_≡_, ap}
-use mathlib.Core.List.{[], _∷_}
+use mathlib.Core.Path.{_≡_, refl, ap}
+use mathlib.Core.Logic.{_⊎_, inl, inr}
+use mathlib.Core.List.{List, [], _∷_}
+use Prim.Native.Nat.{ℕ, _<_, _≤_}
 use native.Mathlib.Omega.{arith}
+use lib.IntN.{ℤ}
 use types.Run.{OneOf, miss}
 use denote.Enum.Declared.{tagOf}
 use Rattle.job.specs.declared.Job.{Job}
-use Rattle.job.specs.Limits.{Acceptable}
-use Rattle.verdict.specs.Rules.{Ahead, All}
+use Rattle.job.specs.Refusals.{First}
+use Rattle.job.specs.Limits.{limits, Acceptable}
+use Rattle.job.proofs.Refusing.{Passes, first-passes, past-first, within}
+use Rattle.verdict.specs.Rules.{Ahead, Even, SameCell, Clear, All, rules}
 use Rattle.verdict.specs.Verdicts.{Says, numberOf}
 use Rattle.verdict.specs.declared.Extent.{Extent}
 use Rattle.verdict.specs.declared.Verdict.{Verdict}
@@ -23,13 +28,38 @@ not-accepted j (Hop t) s o e = absurd (omega arith)
 not-accepted j (Cell c) s o e = absurd (omega arith)
 not-accepted j (Link c) s o e = absurd (omega arith)
 
--- an accepted job keeps the limits
-pub accepted-limits : {j : Job} {z : Extent} → Says j (Accepted z) → Acceptable j
-accepted-limits s = s .kept .0 .0 .0 .0 .1
+-- a verdict that no limit gives is one by the rules, past the limits
+pub past-limits : {j : Job} {v : Verdict} → Says j v → (numberOf v ≡ 0) ⊎ (8 < numberOf v) → Acceptable j × First (rules j) (numberOf v)
+past-limits {j} {v} s h = let p = past-first (limits j) (rules j) (numberOf v) (other 3 (omega arith) (omega arith) h, (other 6 (omega arith) (omega arith) h, (other 7 (omega arith) (omega arith) h, (other 8 (omega arith) (omega arith) h, tt)))) (s .first) in (within (p .0), p .1)
+  where
+    other : (n : ℕ) → 0 < n → n ≤ 8 → (numberOf v ≡ 0) ⊎ (8 < numberOf v) → numberOf v ≡ n → ⊥
+    other n a b (inl h) e = omega arith
+    other n a b (inr h) e = omega arith
 
--- and precedence
-pub accepted-ahead : {j : Job} {z : Extent} → Says j (Accepted z) → Acceptable j × All Ahead j
-accepted-ahead s = (accepted-limits s, s .kept .0 .0 .0 .1)
+-- ---- an accepted job keeps every rule
+module _ {j : Job} {z : Extent} (s : Says j (Accepted z)) where
+  kept : Passes (rules j)
+  kept = first-passes (rules j) ((λ e. omega arith), ((λ e. omega arith), ((λ e. omega arith), ((λ e. omega arith), tt)))) (past-limits s (inl refl) .1)
+
+  -- the limits
+  pub accepted-limits : Acceptable j
+  accepted-limits = past-limits s (inl refl) .0
+
+  -- and precedence
+  pub accepted-ahead : Acceptable j × All Ahead j
+  accepted-ahead = (accepted-limits, kept .0)
+
+  -- hop
+  pub accepted-even : All Even j
+  accepted-even = kept .1 .0
+
+  -- cell
+  pub accepted-cells : (p q : List ℤ) → SameCell j p q → ⊥
+  accepted-cells = kept .1 .1 .0
+
+  -- link
+  pub accepted-clear : All Clear j
+  accepted-clear = kept .1 .1 .1 .0
 
 -- the sizes of one accepted array are the same
 pub sizes-same : (j : Job) (z z′ : Extent) → Says j (Accepted z) → Says j (Accepted z′) → z ≡ z′

@@ -16,7 +16,7 @@ use Rattle.job.specs.declared.Job.{Job}
 use Rattle.job.specs.Record.{box}
 use Rattle.verdict.specs.Mapping.{H, S, Stationary}
 use Rattle.verdict.specs.Collisions.{senders}
-use Rattle.verdict.specs.Walks.{Still, CollidesBy, CollidesBySome}
+use Rattle.verdict.specs.Searches.{Still, CollidesBy, CollidesBySome}
 use Rattle.verdict.specs.Rules.{Ordered, SameCell, Collides, CollidesSome}
 use Rattle.verdict.specs.Verdicts.{FirstPair}
 

@@ -1,4 +1,5 @@
 -- What an acceptable job's numbers come to: small enough for every sum and product of the verdict.
+use mathlib.Core.Path.{_≡_}
 use mathlib.Core.List.{List}
 use Prim.Native.Nat.{ℕ, _<_}
 use native.Mathlib.Omega.{arith}
@@ -10,9 +11,10 @@ use Rattle.space.specs.Boxes.{countOf}
 use Rattle.space.proofs.Ints.{size-up}
 use Rattle.space.proofs.VectorLaws.{sized-up, dot-size}
 use Rattle.job.specs.declared.Job.{Job}
-use Rattle.job.specs.Limits.{Acceptable}
+use Rattle.job.specs.declared.Stream.{Stream}
+use Rattle.job.specs.Limits.{Acceptable, rowLimit}
 use Rattle.job.proofs.Accepting.{stream-sound, time-sized, row0-sized, row1-sized, solid}
-use Rattle.job.specs.Record.{along, box}
+use Rattle.job.specs.Record.{along, box, stream}
 use Rattle.verdict.specs.Courses.{timeAndPlace}
 use Rattle.space.proofs.BoxLaws.{solid-count}
 
@@ -20,12 +22,16 @@ module _ (j : Job) (a : Acceptable j) where
   pub along-sized : (s : ℕ) → s < j .m → Sized difference (along j s)
   along-sized s h = sized-up (omega arith) (stream-sound j a s h .small)
 
+  -- H and d, as the stream that was read has it, are small enough for their product
+  pub time-along : (s : ℕ) → s < j .m → {t : Stream} → t ≡ stream j s → Sized limit (entries (j .time)) × Sized limit (entries (t .d))
+  time-along s h e = (sized-up (omega arith) (time-sized j a), rw e (sized-up (omega arith) (along-sized s h)))
+
   -- Hx and Sx of a difference or of d
   pub placed-sized : (x : List ℤ) → Sized difference x → Sized limit (timeAndPlace j x)
   placed-sized x h =
       record { each = (product (time-sized j a), (product (row0-sized j a), (product (row1-sized j a), (record { size = omega arith }, tt)))) }
     where
-      product : {v : Vector} → Sized 127 (entries v) → Size limit (dotOf (entries v) x)
+      product : {v : Vector} → Sized rowLimit (entries v) → Size limit (dotOf (entries v) x)
       product p = size-up (omega arith) (dot-size p h)
 
 -- there is a first point

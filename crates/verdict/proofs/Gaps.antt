@@ -18,7 +18,7 @@ use Rattle.space.specs.Boxes.{Box, boxOf, In, Apart, Solid, countOf, placeOf, p
 use Rattle.space.proofs.Parts.{int, sum}
 use Rattle.space.proofs.BoxLaws.{SidesSized, inside-sized, stands-in, across-size, in-length, lowsOf, solid-in, place-below, place-point, point-place, place-injective, before-place, place-before}
 use Rattle.job.specs.declared.Job.{Job}
-use Rattle.verdict.specs.Walks.{FindsGap, CollidesBySome, FindsHops}
+use Rattle.verdict.specs.Searches.{FindsGap, CollidesBySome, FindsHops}
 use Rattle.verdict.specs.declared.walk.FoundHops.{FoundHops}
 use Rattle.verdict.specs.declared.walk.FoundHops.the-variants as FoundHops
 use Rattle.verdict.specs.declared.walk.FoundGap.the-variants as FoundGap
@@ -67,7 +67,7 @@ after-forward (s ∷ ss) (x ∷ xs) (inr b) = inr (sym (b .0), after-forward ss 
 -- ---- how many differences there can be: at most 8,189 on each side
 abbrev most : Box → ℕ
 most [] = 1
-most (s ∷ ss) = 8189 * most ss
+most (s ∷ ss) = (difference + (difference + 1)) * most ss
 
 pub count-most : (D : Box) → SidesSized difference D → countOf D ≤ most D
 unfolding countOf

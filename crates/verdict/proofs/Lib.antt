@@ -1,9 +1,10 @@
-pub mod Unique
-pub mod Accepted
-pub mod FirstPairs
-pub mod SizeLaws
 pub mod Courses
 pub mod Fits
-pub mod Gaps
+pub mod SizeLaws
 pub mod Meetings
 pub mod OneAnswer
+pub mod Gaps
+pub mod FirstPairs
+pub mod Saying
+pub mod Unique
+pub mod Accepted

@@ -29,7 +29,7 @@ use Rattle.job.specs.Record.{stream, along}
 use Rattle.verdict.specs.Mapping.{H, S, g, Stationary, orOne, hops, hop, delay}
 use Rattle.verdict.specs.Collisions.{IsCollision}
 use Rattle.verdict.specs.Courses.{timeAndPlace}
-use Rattle.verdict.specs.Walks.{CollidesBy}
+use Rattle.verdict.specs.Searches.{CollidesBy}
 use Rattle.verdict.proofs.Courses.{hop-nonzero, g-is}
 use Rattle.verdict.proofs.Fits.{along-sized, placed-sized}
 

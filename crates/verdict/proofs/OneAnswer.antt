@@ -11,7 +11,7 @@ use Rattle.space.specs.Boxes.{Box}
 use Rattle.space.proofs.MultipleLaws.{times-cancel}
 use Rattle.job.specs.declared.Job.{Job}
 use Rattle.verdict.specs.Mapping.{S, Stationary, hop}
-use Rattle.verdict.specs.Walks.{CollidesBy, FindsGap, FindsLink}
+use Rattle.verdict.specs.Searches.{CollidesBy, FindsGap, FindsLink}
 use Rattle.verdict.specs.declared.walk.FoundLink.{FoundLink}
 use Rattle.verdict.specs.declared.walk.FoundLink.the-variants as FoundLink
 use Rattle.verdict.specs.declared.walk.FoundGap.{FoundGap}

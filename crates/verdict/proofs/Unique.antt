@@ -1,10 +1,12 @@
--- Demand 2, the first half: at most one reply is the verdict on a job.
+-- Demand 2, the first half: at most one reply is the verdict on a job, and one the room count.
 use mathlib.Core.Path.{_≡_, refl, sym, ap, ap₂, subst, _∙_}
 use mathlib.Core.Logic.{_⊎_, inl, inr, ⊎-elim}
 use mathlib.Core.List.{List}
-use Prim.Native.Nat.{ℕ, zero, suc, _<_, _≤_}
+use mathlib.Core.Bool.{cond}
+use Prim.Native.Nat.{ℕ, suc, _≤_}
 use native.Mathlib.Omega.{arith}
 use native.Mathlib.Decide.{decLe}
+use lib.Dec.{eqb}
 use lib.ListN.{length}
 use lib.IntN.{ℤ}
 use Rattle.space.specs.declared.Vector.{Vector}
@@ -13,34 +15,21 @@ use Rattle.space.specs.Order.{Before, AtMost}
 use Rattle.space.proofs.VectorLaws.{plus-minus, vector-of}
 use Rattle.space.proofs.OrderLaws.{before-irreflexive, before-trans, at-most-both}
 use Rattle.job.specs.declared.Job.{Job}
+use Rattle.job.specs.Refusals.{andThen}
 use Rattle.job.specs.Limits.{limits}
-use Rattle.job.proofs.Refusing.{first-unique, none-refuses}
+use Rattle.job.proofs.Refusing.{first-unique, number-of}
 use Rattle.verdict.proofs.OneAnswer.{one-hops}
-use Rattle.verdict.specs.Rules.{Collides, CollidesSome, Kept, Keeps, ExtentOf}
-use Rattle.verdict.specs.Verdicts.{Lowest, FirstPair, turn, Claims, Says}
+use Rattle.verdict.specs.Extents.{ExtentOf}
+use Rattle.verdict.specs.Rules.{Collides, CollidesSome, rules}
+use Rattle.verdict.specs.Verdicts.{Lowest, FirstPair, inNumbers, numberOf, Claims, Says}
+use Rattle.verdict.specs.Rooms.{roomOf, Counts}
 use Rattle.verdict.specs.declared.Extent.{Extent}
 use Rattle.verdict.specs.declared.Pair.{Pair}
 use Rattle.verdict.specs.declared.Collision.{Collision}
+use Rattle.verdict.specs.declared.numbers.InNumbers.{InNumbers}
+use Rattle.verdict.specs.declared.room.Room.{Room}
 use Rattle.verdict.specs.declared.Verdict.{Verdict}
 use Rattle.verdict.specs.declared.Verdict.the-variants.{Accepted, Limit, Precedence, Hop, Cell, Link}
-
--- ---- the rules kept before a later reply were kept before an earlier one, and its own rule too
-fewer : (j : Job) (m n : ℕ) → m < n → Keeps j n → Kept j m
-fewer j m zero h k = absurd (omega arith)
-fewer j m (suc n) h k = at (decLe n m) (λ i. fewer j m n i (k .0))
-  where
-    at : Dec (n ≤ m) → (m < n → Kept j m) → Kept j m
-    at (yes l) r = let e : n ≡ m = omega arith in subst (Kept j) e (k .1)
-    at (no l) r = r (omega arith)
-
--- the rule that a refusal names is not kept
-broken : (j : Job) (v : Verdict) → turn v < 5 → Claims j v → Kept j (turn v) → ⊥
-broken j (Limit r) h c k = c .1 (none-refuses j r k (c .0))
-broken j (Precedence s) h c k = c .broken (k s (c .below))
-broken j (Hop s) h c k = c .broken (k s (c .below))
-broken j (Cell c) h f k = k (entries (c .p)) (entries (c .q)) (f .holds)
-broken j (Link c) h f k = k (c .stream) (f .0 .below) (entries (c .pair .p)) (entries (c .pair .q)) (c .hops) (f .1 .1)
-broken j (Accepted z) h c k = absurd (omega arith)
 
 -- ---- one reply of each kind
 lowest-unique : {P : ℕ → Type 0} {m s t : ℕ} → Lowest P m s → Lowest P m t → s ≡ t
@@ -77,10 +66,10 @@ pair-unique c c′ f f′ = made (c .p) (c .q) (c′ .p) (c′ .q) (vector-of (s
 hops-unique : (j : Job) (s : ℕ) (p q : List ℤ) (f f′ : ℤ) → Collides j s p q f → Collides j s p q f′ → f ≡ f′
 hops-unique j s p q f f′ m n = one-hops j s (m .moving) (minusOf q p) f f′ (m .place) (n .place)
 
-link-unique : (j : Job) (c c′ : Collision) → Claims j (Link c) → Claims j (Link c′) → _≡_ {A = Verdict} (Link c) (Link c′)
+link-unique : (j : Job) (c c′ : Collision) → Claims j (Link c) → Claims j (Link c′) → c ≡ c′
 link-unique j c c′ p q = made (c .stream) (c′ .stream) (c .pair) (c′ .pair) (c .hops) (c′ .hops) (lowest-unique (p .0) (q .0)) (p .1 .0) (q .1 .0) (p .1 .1) (q .1 .1)
   where
-    made : (s s′ : ℕ) (r r′ : Pair) (f f′ : ℤ) → s ≡ s′ → FirstPair (CollidesSome j s) (entries (r .p)) (entries (r .q)) → FirstPair (CollidesSome j s′) (entries (r′ .p)) (entries (r′ .q)) → Collides j s (entries (r .p)) (entries (r .q)) f → Collides j s′ (entries (r′ .p)) (entries (r′ .q)) f′ → _≡_ {A = Verdict} (Link (record { stream = s; pair = r; hops = f })) (Link (record { stream = s′; pair = r′; hops = f′ }))
+    made : (s s′ : ℕ) (r r′ : Pair) (f f′ : ℤ) → s ≡ s′ → FirstPair (CollidesSome j s) (entries (r .p)) (entries (r .q)) → FirstPair (CollidesSome j s′) (entries (r′ .p)) (entries (r′ .q)) → Collides j s (entries (r .p)) (entries (r .q)) f → Collides j s′ (entries (r′ .p)) (entries (r′ .q)) f′ → _≡_ {A = Collision} (record { stream = s; pair = r; hops = f }) (record { stream = s′; pair = r′; hops = f′ })
     made s s′ r r′ f f′ e a b m n =
         let b′ = subst (λ (s : ℕ). FirstPair (CollidesSome j s) (entries (r′ .p)) (entries (r′ .q))) (sym e) b in
         let n′ = subst (λ (s : ℕ). Collides j s (entries (r′ .p)) (entries (r′ .q)) f′) (sym e) n in
@@ -97,57 +86,42 @@ sizes-unique j z z′ p q =
     made : (a b c a′ b′ c′ : ℕ) → a ≡ a′ → b ≡ b′ → c ≡ c′ → _≡_ {A = Extent} (record { cells = a; ticks = b; room = c }) (record { cells = a′; ticks = b′; room = c′ })
     made a b c a′ b′ c′ e f h = rw (e, f, h)
 
-same : (j : Job) (v w : Verdict) → turn v ≡ turn w → Claims j v → Claims j w → v ≡ w
-same j (Limit r) (Limit r′) e p q = ap Limit (first-unique (limits j) r r′ (p .0) (q .0))
-same j (Limit r) (Precedence s′) e p q = absurd (omega arith)
-same j (Limit r) (Hop s′) e p q = absurd (omega arith)
-same j (Limit r) (Cell c′) e p q = absurd (omega arith)
-same j (Limit r) (Link c′) e p q = absurd (omega arith)
-same j (Limit r) (Accepted z′) e p q = absurd (omega arith)
-same j (Precedence s) (Limit r′) e p q = absurd (omega arith)
-same j (Precedence s) (Precedence s′) e p q = ap Precedence (lowest-unique p q)
-same j (Precedence s) (Hop s′) e p q = absurd (omega arith)
-same j (Precedence s) (Cell c′) e p q = absurd (omega arith)
-same j (Precedence s) (Link c′) e p q = absurd (omega arith)
-same j (Precedence s) (Accepted z′) e p q = absurd (omega arith)
-same j (Hop s) (Limit r′) e p q = absurd (omega arith)
-same j (Hop s) (Precedence s′) e p q = absurd (omega arith)
-same j (Hop s) (Hop s′) e p q = ap Hop (lowest-unique p q)
-same j (Hop s) (Cell c′) e p q = absurd (omega arith)
-same j (Hop s) (Link c′) e p q = absurd (omega arith)
-same j (Hop s) (Accepted z′) e p q = absurd (omega arith)
-same j (Cell c) (Limit r′) e p q = absurd (omega arith)
-same j (Cell c) (Precedence s′) e p q = absurd (omega arith)
-same j (Cell c) (Hop s′) e p q = absurd (omega arith)
-same j (Cell c) (Cell c′) e p q = ap Cell (pair-unique c c′ p q)
-same j (Cell c) (Link c′) e p q = absurd (omega arith)
-same j (Cell c) (Accepted z′) e p q = absurd (omega arith)
-same j (Link c) (Limit r′) e p q = absurd (omega arith)
-same j (Link c) (Precedence s′) e p q = absurd (omega arith)
-same j (Link c) (Hop s′) e p q = absurd (omega arith)
-same j (Link c) (Cell c′) e p q = absurd (omega arith)
-same j (Link c) (Link c′) e p q = link-unique j c c′ p q
-same j (Link c) (Accepted z′) e p q = absurd (omega arith)
-same j (Accepted z) (Limit r′) e p q = absurd (omega arith)
-same j (Accepted z) (Precedence s′) e p q = absurd (omega arith)
-same j (Accepted z) (Hop s′) e p q = absurd (omega arith)
-same j (Accepted z) (Cell c′) e p q = absurd (omega arith)
-same j (Accepted z) (Link c′) e p q = absurd (omega arith)
-same j (Accepted z) (Accepted z′) e p q = ap Accepted (sizes-unique j z z′ p q)
+-- ---- a verdict is told by its number and its values
+-- the verdict with a number, 9 to 12 and 0 for accepted, else a limit's
+abbrev verdictOf : ℕ → InNumbers → Verdict
+verdictOf n a =
+    cond (eqb n 0) (Accepted (a .extent)) (cond (eqb n 9) (Precedence (a .stream)) (cond (eqb n 10) (Hop (a .stream))
+    (cond (eqb n 11) (Cell (a .pair)) (cond (eqb n 12) (Link (record { stream = a .stream; pair = a .pair; hops = a .hops })) (Limit n)))))
+
+-- 3, 6, 7 and 8 are the limits'
+limit-of : (j : Job) (r : ℕ) (a : InNumbers) → Claims j (Limit r) → verdictOf r a ≡ Limit r
+limit-of j r a c = number-of (λ (n : ℕ). verdictOf n a ≡ Limit n) (limits j) (refl, (refl, (refl, (refl, tt)))) (c .1) (c .0)
+
+-- so a reply that is right is the verdict with its number and values
+told : (j : Job) (v : Verdict) → Claims j v → v ≡ verdictOf (numberOf v) (inNumbers v)
+told j (Accepted z) c = refl
+told j (Limit r) c = sym (limit-of j r (inNumbers (Limit r)) c)
+told j (Precedence s) c = refl
+told j (Hop s) c = refl
+told j (Cell c) f = refl
+told j (Link c) f = refl
+
+-- and of one number there is one that is right
+same : (j : Job) (v : Verdict) (a : InNumbers) → Claims j v → Claims j (verdictOf (numberOf v) a) → v ≡ verdictOf (numberOf v) a
+same j (Accepted z) a p q = ap Accepted (sizes-unique j z (a .extent) p q)
+same j (Limit r) a p q = sym (limit-of j r a p)
+same j (Precedence s) a p q = ap Precedence (lowest-unique p q)
+same j (Hop s) a p q = ap Hop (lowest-unique p q)
+same j (Cell c) a p q = ap Cell (pair-unique c (a .pair) p q)
+same j (Link c) a p q = ap Link (link-unique j c (record { stream = a .stream; pair = a .pair; hops = a .hops }) p q)
 
 -- two replies that are the verdict on one job are the same
 pub says-unique : (j : Job) (v w : Verdict) → Says j v → Says j w → v ≡ w
-says-unique j v w s t = at (decLe (suc (turn v)) (turn w)) (decLe (suc (turn w)) (turn v))
-  where
-    most : (u : Verdict) → turn u < 6
-    most (Limit r) = omega arith
-    most (Precedence s) = omega arith
-    most (Hop s) = omega arith
-    most (Cell c) = omega arith
-    most (Link c) = omega arith
-    most (Accepted z) = omega arith
+says-unique j v w s t =
+    let e = first-unique (andThen (limits j) (rules j)) (numberOf v) (numberOf w) (s .first) (t .first) in
+    let h = told j w (t .claim) ∙ ap (λ (n : ℕ). verdictOf n (inNumbers w)) (sym e) in
+    same j v (inNumbers w) (s .claim) (subst (Claims j) h (t .claim)) ∙ sym h
 
-    at : Dec (suc (turn v) ≤ turn w) → Dec (suc (turn w) ≤ turn v) → v ≡ w
-    at (yes h) k = absurd (broken j v (omega (arith, most w)) (s .claim) (fewer j (turn v) (turn w) h (t .kept)))
-    at (no h) (yes k) = absurd (broken j w (omega (arith, most v)) (t .claim) (fewer j (turn w) (turn v) k (s .kept)))
-    at (no h) (no k) = same j v w (omega arith) (s .claim) (t .claim)
+-- the room count follows the verdict
+pub counts-unique : (Is : Verdict → Type 0) → ((v w : Verdict) → Is v → Is w → v ≡ w) → (r r′ : Room) → Counts Is r → Counts Is r′ → r ≡ r′
+counts-unique Is one r r′ p q = p .2 ∙ ap roomOf (one (p .0) (q .0) (p .1) (q .1)) ∙ sym (q .2)

@@ -1,4 +1,5 @@
 -- 'Cells are the whole rectangle from least to greatest Sx over the box, row-major. Ticks run from 0 to greatest Hx - least Hx; the count of ticks is one more. Room R = cells × sum of the w.'
+use mathlib.Core.Path.{_≡_}
 use mathlib.Core.List.{[], _∷_}
 use Prim.Native.Nat.{ℕ, _*_}
 use Rattle.space.specs.Vectors.{entries}
@@ -6,6 +7,7 @@ use Rattle.space.specs.Boxes.{Side, Box, across, countOf, reach}
 use Rattle.job.specs.declared.Job.{Job}
 use Rattle.job.specs.Record.{box}
 use Rattle.verdict.specs.Mapping.{delays}
+use Rattle.verdict.specs.declared.Extent.{Extent}
 
 -- the rectangle of cells; box order in it is row-major
 abbrev pub rectangle : Job → Box
@@ -24,3 +26,9 @@ ticks j = across (clock j)
 -- R
 abbrev pub room : Job → ℕ
 room j = cells j * delays j (j .m)
+
+-- z has the cells, ticks and room of the job's array
+pub record ExtentOf (j : Job) (z : Extent) : Type 0 where
+  pub cells : z .cells ≡ cells j
+  pub ticks : z .ticks ≡ ticks j
+  pub room : z .room ≡ room j

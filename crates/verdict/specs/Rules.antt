@@ -1,19 +1,17 @@
 -- 'Meaning of the verdict': precedence, hop, cell and link.
 use mathlib.Core.Path.{_≡_}
 use mathlib.Core.List.{List}
-use Prim.Native.Nat.{ℕ, zero, suc, _*_, _<_, _∣_}
+use Prim.Native.Nat.{ℕ, _<_, _∣_}
 use lib.IntN.{ℤ, pos, natAbs, _*ℤ_}
 use lib.Signed.{_≤ℤ_}
 use Rattle.space.specs.Vectors.{minusOf, timesOf}
 use Rattle.space.specs.Order.{Before}
 use Rattle.space.specs.Boxes.{Box, In}
 use Rattle.job.specs.declared.Job.{Job}
-use Rattle.job.specs.Limits.{Acceptable}
+use Rattle.job.specs.Refusals.{Checks, done, check}
 use Rattle.job.specs.Record.{box, stream, along}
 use Rattle.verdict.specs.Mapping.{H, S, g, Stationary, hop, delay}
 use Rattle.verdict.specs.Collisions.{senders, IsCollision}
-use Rattle.verdict.specs.declared.Extent.{Extent}
-use Rattle.verdict.specs.Extents.{cells, ticks, room}
 
 -- 'Precedence: Hd ≥ 1 for every stream'
 abbrev pub Ahead : Job → ℕ → Type 0
@@ -54,21 +52,6 @@ Clear j s = (p q : List ℤ) (f : ℤ) → Collides j s p q f → ⊥
 abbrev pub All : (Job → ℕ → Type 0) → Job → Type 0
 All P j = (s : ℕ) → s < j .m → P j s
 
--- 'First broken rule: precedence over all streams, then hop over all streams, then cell, then link over all streams': the rules in their order, after the limits
-abbrev pub Kept : Job → ℕ → Type 0
-Kept j zero = Acceptable j
-Kept j (suc zero) = All Ahead j
-Kept j (suc (suc zero)) = All Even j
-Kept j (suc (suc (suc zero))) = (p q : List ℤ) → SameCell j p q → ⊥
-Kept j (suc (suc (suc (suc more)))) = All Clear j
-
--- the first n of them
-abbrev pub Keeps : Job → ℕ → Type 0
-Keeps j zero = Unit {0}
-Keeps j (suc n) = Keeps j n × Kept j n
-
--- cells, ticks and room of the job's array
-pub record ExtentOf (j : Job) (z : Extent) : Type 0 where
-  pub cells : z .cells ≡ cells j
-  pub ticks : z .ticks ≡ ticks j
-  pub room : z .room ≡ room j
+-- 'First broken rule: precedence over all streams, then hop over all streams, then cell, then link over all streams', after the limits
+abbrev pub rules : Job → Checks
+rules j = check 9 (All Ahead j) (check 10 (All Even j) (check 11 ((p q : List ℤ) → SameCell j p q → ⊥) (check 12 (All Clear j) done)))

@@ -7,10 +7,15 @@ use lib.IntN.{ℤ, pos}
 use Rattle.space.specs.Vectors.{entries, minusOf}
 use Rattle.space.specs.Order.{Before, AtMost}
 use Rattle.job.specs.declared.Job.{Job}
-use Rattle.job.specs.Refusals.{First}
+use Rattle.job.specs.Record.{zeroVector}
+use Rattle.job.specs.Refusals.{First, andThen}
 use Rattle.job.specs.Limits.{limits}
-use Rattle.verdict.specs.Rules.{Ahead, Even, SameCell, Collides, CollidesSome, Clear, Keeps, ExtentOf}
+use Rattle.verdict.specs.Extents.{ExtentOf}
+use Rattle.verdict.specs.Rules.{Ahead, Even, SameCell, Collides, CollidesSome, Clear, rules}
+use Rattle.verdict.specs.declared.Extent.{Extent}
+use Rattle.verdict.specs.declared.Pair.{Pair}
 use Rattle.verdict.specs.declared.Collision.{Collision}
+use Rattle.verdict.specs.declared.numbers.InNumbers.{InNumbers}
 use Rattle.verdict.specs.declared.Verdict.{Verdict}
 use Rattle.verdict.specs.declared.Verdict.the-variants.{Accepted, Limit, Precedence, Hop, Cell, Link}
 
@@ -31,51 +36,34 @@ FirstCollision j c =
     FirstPair (CollidesSome j (c .stream)) (entries (c .pair .p)) (entries (c .pair .q))
     × Collides j (c .stream) (entries (c .pair .p)) (entries (c .pair .q)) (c .hops)
 
--- how many rules are kept before a reply
-abbrev pub turn : Verdict → ℕ
-turn (Limit r) = 0
-turn (Precedence s) = 1
-turn (Hop s) = 2
-turn (Cell c) = 3
-turn (Link c) = 4
-turn (Accepted z) = 5
+-- 'No.' and 'Returns besides': 'the number is 0 for accepted, and stream and f are 0 where the table lists none', and so are the points and the sizes
+abbrev noPair : Pair
+noPair = record { p = zeroVector; q = zeroVector }
 
--- what a reply says beside that
+abbrev noExtent : Extent
+noExtent = record { cells = 0; ticks = 0; room = 0 }
+
+abbrev pub inNumbers : Verdict → InNumbers
+inNumbers (Accepted z) = record { number = 0; stream = 0; pair = noPair; hops = pos 0; extent = z }
+inNumbers (Limit r) = record { number = r; stream = 0; pair = noPair; hops = pos 0; extent = noExtent }
+inNumbers (Precedence s) = record { number = 9; stream = s; pair = noPair; hops = pos 0; extent = noExtent }
+inNumbers (Hop s) = record { number = 10; stream = s; pair = noPair; hops = pos 0; extent = noExtent }
+inNumbers (Cell c) = record { number = 11; stream = 0; pair = c; hops = pos 0; extent = noExtent }
+inNumbers (Link c) = record { number = 12; stream = c .stream; pair = c .pair; hops = c .hops; extent = noExtent }
+
+abbrev pub numberOf : Verdict → ℕ
+numberOf v = inNumbers v .number
+
+-- what a reply says beside its number
 abbrev pub Claims : Job → Verdict → Type 0
+Claims j (Accepted z) = ExtentOf j z
 Claims j (Limit r) = First (limits j) r × (r ≡ 0 → ⊥)
 Claims j (Precedence s) = Lowest (Ahead j) (j .m) s
 Claims j (Hop s) = Lowest (Even j) (j .m) s
 Claims j (Cell c) = FirstPair (SameCell j) (entries (c .p)) (entries (c .q))
 Claims j (Link c) = Lowest (Clear j) (j .m) (c .stream) × FirstCollision j c
-Claims j (Accepted z) = ExtentOf j z
 
--- v is the verdict on j
+-- v is the verdict on j: its number is the first that is given, of the limits and then of the rules
 pub record Says (j : Job) (v : Verdict) : Type 0 where
-  pub kept : Keeps j (turn v)
+  pub first : First (andThen (limits j) (rules j)) (numberOf v)
   pub claim : Claims j v
-
--- 'No.'; 'the number is 0 for accepted'
-abbrev pub numberOf : Verdict → ℕ
-numberOf (Accepted z) = 0
-numberOf (Limit r) = r
-numberOf (Precedence s) = 9
-numberOf (Hop s) = 10
-numberOf (Cell c) = 11
-numberOf (Link c) = 12
-
--- 'Returns besides': 'stream and f are 0 where the table lists none'. The points are records of their own in the reply, and no number stands for them
-abbrev pub streamOf : Verdict → ℕ
-streamOf (Accepted z) = 0
-streamOf (Limit r) = 0
-streamOf (Precedence s) = s
-streamOf (Hop s) = s
-streamOf (Cell c) = 0
-streamOf (Link c) = c .stream
-
-abbrev pub hopsOf : Verdict → ℤ
-hopsOf (Accepted z) = pos 0
-hopsOf (Limit r) = pos 0
-hopsOf (Precedence s) = pos 0
-hopsOf (Hop s) = pos 0
-hopsOf (Cell c) = pos 0
-hopsOf (Link c) = c .hops

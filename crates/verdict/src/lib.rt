@@ -1,5 +1,8 @@
 // The verdict on a job: accepted with its sizes, or the first broken rule with its stream and its first pair.
 pub mod course;
+mod extents;
+pub mod numbers;
+pub mod room;
 mod rules;
 pub mod walk;
 
@@ -8,11 +11,7 @@ use crate::rules::FoundPair;
 use crate::rules::FoundStream;
 use job::Job;
 use space::Vector;
-ghost use mathlib.Core.Path.{_≡_};
-ghost use Prim.Native.Nat.{_<_, _≤_};
 ghost use Rattle.job.specs.Limits.{Acceptable};
-ghost use Rattle.verdict.specs.Mapping.{delays};
-ghost use Rattle.verdict.specs.Rules.{Ahead, All, ExtentOf};
 ghost use Rattle.verdict.specs.Verdicts.{Says};
 
 // How many cells and ticks an accepted array has, and how many register places.
@@ -52,6 +51,14 @@ pub fn verdict_of(j: Job) -> Verdict
     if number != 0 {
         return Verdict::Limit(number);
     }
+    judged(j)
+}
+
+// The verdict on a record that keeps the limits: its first broken rule, or accepted.
+pub fn judged(j: Job) -> Verdict
+    requires { ⌜ Acceptable j ⌝ }
+    ensures { λ r. ⌜ Says j r ⌝ }
+{
     let late = crate::rules::late(j);
     if let FoundStream::At(s) = late {
         return Verdict::Precedence(s);
@@ -68,40 +75,5 @@ pub fn verdict_of(j: Job) -> Verdict
     if let FoundCollision::At(c) = jam {
         return Verdict::Link(c);
     }
-    Verdict::Accepted(sizes(j))
-}
-
-// The sum of the w.
-fn all_delays(j: Job) -> u64
-    requires { ⌜ Acceptable j × All Ahead j ⌝ }
-    ensures few { λ r. ⌜ r ≤ 30480 ⌝ }
-    ensures are { λ r. ⌜ r ≡ delays j (j .m) ⌝ }
-{
-    let m = j.m;
-    let mut s: u8 = 0;
-    let mut sum: u64 = 0;
-    while s < m {
-        let c = crate::course::course_of(j, s);
-        let unit = c.unit;
-        sum += space::divisor::size(unit.x0);
-        s += 1;
-    }
-    sum
-}
-
-// Cells, ticks and room of a job that keeps precedence.
-fn sizes(j: Job) -> Extent
-    requires { ⌜ Acceptable j × All Ahead j ⌝ }
-    ensures { λ r. ⌜ ExtentOf j r ⌝ }
-{
-    let b = j.bounds;
-    let rows = space::boxes::reach_of(j.row0, b);
-    let columns = space::boxes::reach_of(j.row1, b);
-    let clock = space::boxes::reach_of(j.time, b);
-    let cells = rows.count * columns.count;
-    Extent {
-        cells,
-        ticks: clock.count,
-        room: cells * all_delays(j),
-    }
+    Verdict::Accepted(crate::extents::extent_of(j))
 }

@@ -15,7 +15,7 @@ ghost use Rattle.job.specs.Limits.{Acceptable};
 ghost use Rattle.verdict.specs.Mapping.{Stationary};
 ghost use Rattle.verdict.specs.Collisions.{IsCollision};
 ghost use Rattle.verdict.specs.Courses.{CourseOf};
-ghost use Rattle.verdict.specs.Walks.{Still, FindsHops, FindsGap, FindsLink};
+ghost use Rattle.verdict.specs.Searches.{Still, FindsHops, FindsGap, FindsLink};
 
 // Whether two tokens meet, and how many hops apart.
 pub enum FoundHops {

@@ -9,8 +9,8 @@ enum-known-r c = search needs
 enum-known-r-2 : tie.Need-enum-known-r-2
 enum-known-r-2 c = search needs
 
-answer-of-requires : tie.Need-answer-of-requires
-answer-of-requires c κs = search needs
+in-numbers-requires : tie.Need-in-numbers-requires
+in-numbers-requires c κs = search needs
 
 enum-told : tie.Need-enum-told
 enum-told c = search needs
@@ -43,4 +43,4 @@ returns-6 : tie.Need-returns-6
 returns-6 c = search needs
 
 pub answer-of-spec : {M : Type 1} → statement M
-answer-of-spec = tie.close (tie.spec enum-known-r enum-known-r-2 answer-of-requires enum-told enum-known-r-3 enum-known-r-4 enum-told-2 returns returns-2 returns-3 returns-4 returns-5 returns-6)
+answer-of-spec = tie.close (tie.spec enum-known-r enum-known-r-2 in-numbers-requires enum-told enum-known-r-3 enum-known-r-4 enum-told-2 returns returns-2 returns-3 returns-4 returns-5 returns-6)

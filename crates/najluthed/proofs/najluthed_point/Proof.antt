@@ -1,6 +1,7 @@
-use mathlib.Core.Path.{_∙_, refl, subst}
+use mathlib.Core.Path.{_∙_, refl, ap, subst}
 use borrow.Author.Needs.{needs}
 use Rattle.space.proofs.Machine.{in-range, back}
+use Rattle.verdict.specs.declared.numbers.InNumbers.{InNumbers}
 use Rattle.array.specs.Lookups.{LooksOf}
 use Rattle.najluthed.proofs.najluthed_point.Statement.{statement}
 use Rattle.najluthed.proofs.najluthed_point.Tie as tie
@@ -17,8 +18,8 @@ enum-told c = search needs
 enum-known-worked-2 : tie.Need-enum-known-worked-2
 enum-known-worked-2 c = search needs
 
-answer-of-requires : tie.Need-answer-of-requires
-answer-of-requires c κs = search needs
+in-numbers-requires : tie.Need-in-numbers-requires
+in-numbers-requires c κs = search needs
 
 wide-requires : tie.Need-wide-requires
 wide-requires c κs = search needs
@@ -38,7 +39,7 @@ returns-2 c = (_, subst (LooksOf _ _ _) (c .enum-told .given .1) (c .before .bef
 returns-3 : tie.Need-returns-3
 returns-3 c =
     let case = c .before .before .before in
-    (_, subst (LooksOf _ _ _) (case .worked2 .given .1) (case .before .before .point-at-bytes .ensures), (c .wide .ensures ∙ c .before .answer-of .ensures .number, refl, refl, refl, refl, refl))
+    (_, subst (LooksOf _ _ _) (case .worked2 .given .1) (case .before .before .point-at-bytes .ensures), (c .wide .ensures ∙ ap (λ (a : InNumbers). a .number) (c .before .in-numbers .ensures), refl, refl, refl, refl, refl))
 
 pub najluthed-point-spec : {M : Type 1} → statement M
-najluthed-point-spec = tie.close (tie.spec point-at-bytes-requires enum-known-worked enum-told enum-known-worked-2 answer-of-requires wide-requires returns returns-2 returns-3)
+najluthed-point-spec = tie.close (tie.spec point-at-bytes-requires enum-known-worked enum-told enum-known-worked-2 in-numbers-requires wide-requires returns returns-2 returns-3)

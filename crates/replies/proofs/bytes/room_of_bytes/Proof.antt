@@ -1,3 +1,4 @@
+-- The room count in the verdict on the bytes.
 use borrow.Author.Needs.{needs}
 use Rattle.replies.proofs.bytes.room_of_bytes.Statement.{statement}
 use Rattle.replies.proofs.bytes.room_of_bytes.Tie as tie

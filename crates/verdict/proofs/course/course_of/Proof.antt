@@ -39,26 +39,33 @@ or-one-requires : tie.Need-or-one-requires
 or-one-requires c κs = search needs
 
 module _ (c : tie.After-or-one) where
+  -- the products, and the start before them
+  abbrev products : tie.After-time-and-place
+  products = let sizes = c .before .before in sizes .before .before .before .before
+
+  abbrev start : tie.Start
+  start = products .before .before .before
+
   abbrev j : Job
-  j = c .before .before .before .before .before .before .before .before .before .args .j
+  j = start .args .j
 
   abbrev s : ℕ
-  s = c .before .before .before .before .before .before .before .before .before .args .s
+  s = start .args .s
 
   -- Hd and Sd are small, and what is read back of them is they
   small : Sized limit (timeAndPlace j (along j s))
-  small = course-sized j s (c .before .before .before .before .before .before .before .before .before .pre .0) (c .before .before .before .before .before .before .before .before .before .pre .1)
+  small = course-sized j s (start .pre .0) (start .pre .1)
 
-  whole : entries (c .before .before .before .before .before .before .time-and-place .result) ≡ timeAndPlace j (along j s)
-  whole = c .before .before .before .before .before .before .time-and-place .ensures ∙ ap (λ (t : Stream). timeAndPlace j (entries (t .d))) (c .before .before .before .before .before .before .before .before .stream-at .ensures)
+  whole : entries (products .time-and-place .result) ≡ timeAndPlace j (along j s)
+  whole = products .time-and-place .ensures ∙ ap (λ (t : Stream). timeAndPlace j (entries (t .d))) (products .before .before .stream-at .ensures)
 
-  time : Is limit (H j (along j s)) (c .before .before .before .before .before .before .time-and-place .result .x0)
+  time : Is limit (H j (along j s)) (products .time-and-place .result .x0)
   time = known (unfour whole .0) (small .each .0) tt
 
-  first : Is limit (dotOf (entries (j .row0)) (along j s)) (c .before .before .before .before .before .before .time-and-place .result .x1)
+  first : Is limit (dotOf (entries (j .row0)) (along j s)) (products .time-and-place .result .x1)
   first = known (unfour whole .1) (small .each .1 .0) tt
 
-  second : Is limit (dotOf (entries (j .row1)) (along j s)) (c .before .before .before .before .before .before .time-and-place .result .x2)
+  second : Is limit (dotOf (entries (j .row1)) (along j s)) (products .time-and-place .result .x2)
   second = known (unfour whole .2) (small .each .1 .1 .0) tt
 
   -- what is answered is g, and the hops
@@ -66,7 +73,7 @@ module _ (c : tie.After-or-one) where
   divisor = g-answered j s _ _ _ (c .before .before .before .before .size .ensures ∙ ap natAbs (read first)) (c .before .before .size2 .ensures ∙ ap natAbs (read second)) (c .before .gcd .ensures)
 
   steps : Is limit (pos (hops j s)) (pos (c .or-one .result))
-  steps = known (ap pos (c .or-one .ensures ∙ ap orOne divisor)) (hops-sized j s (c .before .before .before .before .before .before .before .before .before .pre .0) (c .before .before .before .before .before .before .before .before .before .pre .1)) tt
+  steps = known (ap pos (c .or-one .ensures ∙ ap orOne divisor)) (hops-sized j s (start .pre .0) (start .pre .1)) tt
 
   some : pos (hops j s) ≡ pos 0 → ⊥
   some e = hops-some j s (ap natAbs e)
@@ -81,11 +88,15 @@ div-t11 : tie.Need-div-t11
 div-t11 c = let o = c .before .before .before .before in div-need (first o) (steps o) (some o)
 
 div-t12 : tie.Need-div-t12
-div-t12 c = let o = c .before .before .before .before .before .before in div-need (second o) (steps o) (some o)
+div-t12 c =
+    let first-done = c .before .before in
+    let o = first-done .before .before .before .before in
+    div-need (second o) (steps o) (some o)
 
 returns : tie.Need-returns
 returns c =
-    let o = c .before .before .before .before .before .before in
+    let first-done = c .before .before in
+    let o = first-done .before .before .before .before in
     record { unit = four (read (quot (time o) (steps o))) (read (quot (first o) (steps o))) (read (quot (second o) (steps o))) refl; hops = divisor o }
 
 pub course-of-spec : {M : Type 1} → statement M

@@ -1,3 +1,4 @@
+-- 1 for 0, and a number that is not 0 for itself.
 use mathlib.Core.Path.{_≡_, refl}
 use Prim.Native.Nat.{ℕ, zero, suc}
 use borrow.Author.Needs.{needs}

@@ -1,5 +1,4 @@
 -- No tokens of a stream before s meet.
-use mathlib.Core.Path.{subst}
 use Prim.Native.Nat.{ℕ, _-_, _<_, _≤_}
 use native.Mathlib.Omega.{arith}
 use borrow.Author.Count.{below-more}
@@ -35,8 +34,9 @@ lowest j s clash h k w =
 
 returns : tie.Need-returns Inv-loop μ-loop
 returns c =
-    lowest (c .before .before .before .before .before .before .args .j) (c .before .before .before .before .before .loop .s) _ (omega arith) (c .before .before .before .before .before .loop .inv .1)
-    (subst (FindsCollisionOn (c .before .before .before .before .before .before .args .j) (c .before .before .before .before .before .loop .s)) (c .before .found .given .1) (c .before .before .before .collision-on .ensures))
+    let call = c .before .before .before in
+    let turn = call .before .before in
+    lowest (turn .before .args .j) (turn .loop .s) _ (omega arith) (turn .loop .inv .1) (rw (c .before .found .given .1) at (call .collision-on .ensures))
 
 enum-told : tie.Need-enum-told Inv-loop μ-loop
 enum-told c = search needs
@@ -49,7 +49,7 @@ loop-less c = omega arith
 
 loop-again : tie.Need-loop-again Inv-loop μ-loop
 loop-again c =
-    (omega arith, below-more _ _ (c .before .before .before .before .loop .inv .1) (subst (FindsCollisionOn (c .before .before .before .before .before .args .j) (c .before .before .before .before .loop .s)) (c .enum-told .given .1) (c .before .before .collision-on .ensures)))
+    (omega arith, below-more _ _ (c .before .before .before .before .loop .inv .1) (rw (c .enum-told .given .1) at (c .before .before .collision-on .ensures)))
 
 returns-2 : tie.Need-returns-2 Inv-loop μ-loop
 returns-2 c = λ t h. c .before .loop .inv .1 t (omega arith)

@@ -1,16 +1,13 @@
-use mathlib.Core.Path.{_≡_, sym, subst, _∙_}
+-- H times d, tested at 1, tells whether it is at least 1.
+use mathlib.Core.Path.{_≡_, _∙_}
 use native.Mathlib.Omega.{arith}
 use lib.IntN.{ℤ, pos}
 use lib.Signed.{_≤ℤ_, leZ}
 use mir.Syntax.{w64}
 use mir.Val.{SFits}
-use Rattle.space.specs.Numbers.{Tells, limit}
-use Rattle.space.specs.Vectors.{entries, Sized}
+use Rattle.space.specs.Numbers.{Tells}
 use Rattle.space.proofs.Machine.{held, in-range, back, tells-leZ}
-use Rattle.space.proofs.VectorLaws.{sized-up}
-use Rattle.job.specs.declared.Stream.{Stream}
-use Rattle.job.proofs.Accepting.{time-sized}
-use Rattle.verdict.proofs.Fits.{along-sized}
+use Rattle.verdict.proofs.Fits.{time-along}
 use Rattle.verdict.proofs.rules.is_ahead.Statement.{statement}
 use Rattle.verdict.proofs.rules.is_ahead.Tie as tie
 
@@ -20,8 +17,7 @@ stream-at-requires c κs = let m = c .pre .0 .shaped .streams in omega arith
 dot-requires : tie.Need-dot-requires
 dot-requires c κs =
     let s = c .before .before .before in
-    let d = along-sized (s .args .j) (s .pre .0) (s .args .s) (s .pre .1) in
-    (sized-up (omega arith) (time-sized (s .args .j) (s .pre .0)), subst (λ (t : Stream). Sized limit (entries (t .d))) (sym (c .before .before .stream-at .ensures)) (sized-up (omega arith) d))
+    time-along (s .args .j) (s .pre .0) (s .args .s) (s .pre .1) (c .before .before .stream-at .ensures)
 
 -- a test of a number that is x
 at-least : {v x : ℤ} → SFits w64 v → v ≡ x → Tells (pos 1 ≤ℤ x) (leZ (pos 1) (held v))

@@ -6,18 +6,14 @@ use native.Mathlib.Omega.{arith}
 use lib.Dec.{eqb}
 use lib.IntN.{natAbs}
 use borrow.Author.Needs.{needs}
-use Rattle.space.specs.Numbers.{Tells, limit}
-use Rattle.space.specs.Vectors.{entries, Sized}
+use Rattle.space.specs.Numbers.{Tells}
 use Rattle.space.proofs.Machine.{in-range, size-read, never}
-use Rattle.space.proofs.VectorLaws.{sized-up}
 use Rattle.space.proofs.Telling.{tells-as, tells-eq}
 use Rattle.job.specs.declared.Job.{Job}
-use Rattle.job.specs.declared.Stream.{Stream}
 use Rattle.job.specs.Record.{along}
 use Rattle.verdict.specs.Mapping.{H, g}
 use Rattle.verdict.proofs.Courses.{none-stationary, stationary-none}
-use Rattle.job.proofs.Accepting.{time-sized}
-use Rattle.verdict.proofs.Fits.{along-sized}
+use Rattle.verdict.proofs.Fits.{time-along}
 use Rattle.verdict.specs.Rules.{Even}
 use Rattle.verdict.proofs.rules.is_even.Statement.{statement}
 use Rattle.verdict.proofs.rules.is_even.Tie as tie
@@ -27,22 +23,25 @@ course-of-requires c κs = c .pre
 
 returns : tie.Need-returns
 returns c =
-    record { holds = λ t m. absurd (m (none-stationary (c .before .before .before .args .j) (c .before .before .before .args .s) (sym (c .before .before .course-of .ensures .hops) ∙ c .if1 .taken))); fails = λ t. never t }
+    let s = c .before .before .before .args in
+    record { holds = λ t m. absurd (m (none-stationary (s .j) (s .s) (sym (c .before .before .course-of .ensures .hops) ∙ c .if1 .taken))); fails = λ t. never t }
 
 stream-at-requires : tie.Need-stream-at-requires
 stream-at-requires c κs = let m = c .before .before .before .pre .0 .shaped .streams in omega (arith, c .before .before .before .pre .1)
 
 dot-requires : tie.Need-dot-requires
 dot-requires c κs =
-    let s = c .before .before .before .before .before .before in
-    let d = along-sized (s .args .j) (s .pre .0) (s .args .s) (s .pre .1) in
-    (sized-up (omega arith) (time-sized (s .args .j) (s .pre .0)), subst (λ (t : Stream). Sized limit (entries (t .d))) (sym (c .before .before .stream-at .ensures)) (sized-up (omega arith) d))
+    let read = c .before .before in
+    let s = read .before .before .before .before in
+    time-along (s .args .j) (s .pre .0) (s .args .s) (s .pre .1) (read .stream-at .ensures)
 
 size-requires : tie.Need-size-requires
 size-requires c κs = search needs
 
 rem-result : tie.Need-rem-result
-rem-result c = omega (arith, c .before .before .before .before .before .before .if1 .left)
+rem-result c =
+    let dot = c .before .before in
+    omega (arith, dot .before .before .before .before .if1 .left)
 
 -- g divides n where no rest is left, and is asked to where it is not 0
 divides : (j : Job) (s n k : ℕ) → (k ≡ 0 → ⊥) → k ≡ g j s → n ≡ natAbs (H j (along j s)) → Tells (Even j s) (eqb (n % k) 0)
@@ -54,8 +53,12 @@ divides j s n k z e h =
 
 returns-2 : tie.Need-returns-2
 returns-2 c =
-    divides (c .before .before .before .before .before .before .before .before .before .args .j) (c .before .before .before .before .before .before .before .before .before .args .s) _ _ (c .before .before .before .before .before .before .if1 .left) (c .before .before .before .before .before .before .before .before .course-of .ensures .hops)
-    (size-read (rw (c .before .before .before .before .before .stream-at .ensures) at (c .before .before .dot .ensures)) (in-range (c .before .before .dot .ok)) (c .before .size .ensures))
+    let product = c .before .before in
+    let read = product .before .before .before in
+    let moving = read .before in
+    let course = moving .before .before in
+    divides (course .before .args .j) (course .before .args .s) _ _ (moving .if1 .left) (course .course-of .ensures .hops)
+    (size-read (rw (read .stream-at .ensures) at (product .dot .ensures)) (in-range (product .dot .ok)) (c .before .size .ensures))
 
 pub is-even-spec : {M : Type 1} → statement M
 is-even-spec = tie.close (tie.spec course-of-requires returns stream-at-requires dot-requires size-requires rem-result returns-2)

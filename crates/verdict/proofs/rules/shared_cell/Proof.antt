@@ -6,7 +6,8 @@ use Rattle.space.specs.Vectors.{entries}
 use Rattle.space.proofs.VectorLaws.{sized-up}
 use Rattle.space.proofs.PairLaws.{apart-sized}
 use Rattle.job.specs.Record.{box}
-use Rattle.verdict.specs.Walks.{Still, FindsGap}
+use Rattle.verdict.specs.Searches.{Still, FindsGap}
+use Rattle.verdict.specs.declared.walk.FoundGap.the-variants as FoundGap
 use Rattle.job.proofs.Accepting.{low-sized, high-sized, in-box-sized}
 use Rattle.verdict.specs.Rules.{SameCell}
 use Rattle.verdict.specs.Verdicts.{FirstPair}
@@ -25,33 +26,40 @@ enum-told c = search needs
 
 returns : tie.Need-returns
 returns c =
-    let j = c .before .before .before .args .j in
-    no-pair (cell-by-gap j) (subst (FindsGap (Still j) (box j)) (c .enum-told .given .1) (c .before .before .cell-gap .ensures))
+    let call = c .before .before in
+    no-pair (cell-by-gap (call .before .args .j)) (rw (c .enum-told .given .1) at (call .cell-gap .ensures))
+
+-- the start, and the difference that was found
+abbrev start : tie.After-known-told → tie.Start
+start c = c .before .before .before .before
+
+found : (c : tie.After-known-told) → FindsGap (Still (start c .args .j)) (box (start c .args .j)) (FoundGap.At (c .before .gap .given .0 .0))
+found c = rw (c .before .gap .given .1) at (c .before .before .before .cell-gap .ensures)
 
 least-start-requires : tie.Need-least-start-requires
 least-start-requires c κs =
-    let j = c .before .before .before .before .args .j in
-    let a = c .before .before .before .before .pre in
-    let found = subst (FindsGap (Still j) (box j)) (c .before .gap .given .1) (c .before .before .before .cell-gap .ensures) in
-    (low-sized j a, high-sized j a, apart-sized (j .bounds) _ (low-sized j a) (high-sized j a) (found .1), found .1)
+    let j = start c .args .j in
+    let a = start c .pre in
+    let apart = found c .1 in
+    (low-sized j a, high-sized j a, apart-sized (j .bounds) _ (low-sized j a) (high-sized j a) apart, apart)
 
 -- the points are as small as the box, and the difference is twice that
 plus-requires : tie.Need-plus-requires
 plus-requires c κs =
-    let j = c .before .before .before .before .before .args .j in
-    let a = c .before .before .before .before .before .pre in
-    let found = subst (FindsGap (Still j) (box j)) (c .before .before .gap .given .1) (c .before .before .before .before .cell-gap .ensures) in (
+    let j = start (c .before) .args .j in
+    let a = start (c .before) .pre in (
       sized-up (omega arith) (in-box-sized j a (c .least-start .ensures .0 .0)),
-      sized-up (omega arith) (apart-sized (j .bounds) _ (low-sized j a) (high-sized j a) (found .1)),
+      sized-up (omega arith) (apart-sized (j .bounds) _ (low-sized j a) (high-sized j a) (found (c .before) .1)),
     )
 
 returns-2 : tie.Need-returns-2
 returns-2 c =
-    let j = c .before .before .before .before .before .before .args .j in
-    let found = subst (FindsGap (Still j) (box j)) (c .before .before .before .gap .given .1) (c .before .before .before .before .before .cell-gap .ensures) in
+    let gap = c .before .before in
+    let j = start gap .args .j in
+    let w = found gap in
     let at = c .before .least-start .ensures in
     subst (FirstPair (SameCell j) (entries (c .before .least-start .result))) (sym (c .plus .ensures))
-    (first-pair (cell-by-gap j) _ _ (found .0) (found .1) (found .2) (found .3) (at .0 .0) (at .0 .1) (at .1))
+    (first-pair (cell-by-gap j) _ _ (w .0) (w .1) (w .2) (w .3) (at .0 .0) (at .0 .1) (at .1))
 
 pub shared-cell-spec : {M : Type 1} → statement M
 shared-cell-spec = tie.close (tie.spec cell-gap-requires enum-known-gap enum-told returns least-start-requires plus-requires returns-2)

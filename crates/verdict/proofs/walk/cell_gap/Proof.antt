@@ -5,7 +5,7 @@ use native.Mathlib.Omega.{arith}
 use Rattle.space.specs.Vectors.{entries}
 use Rattle.space.specs.Boxes.{boxOf, countOf, pointOf, PointAt}
 use Rattle.job.specs.Record.{box}
-use Rattle.verdict.specs.Walks.{Still}
+use Rattle.verdict.specs.Searches.{Still}
 use Rattle.space.proofs.BoxLaws.{stands-in}
 use Rattle.job.proofs.Accepting.{low-sized, high-sized, solid}
 use Rattle.verdict.proofs.Gaps.{gap-sized, Spread, spread, Passed, passed-first, passed-more, gap-found, gap-nowhere}
@@ -42,25 +42,32 @@ loop-holds c =
     let e = c .before .first-place .ensures in
     (passed-first _ _ _ e, rw e (c .first-gap .ensures))
 
--- the loop's test: a place of the differences, and y is the difference there
-below : (c : tie.In-loop Inv-loop μ-loop) → c .before .loop .i < countOf (boxOf (c .before .before .before .before .before .differences .result))
-below c = let e = c .before .before .before .before .count .ensures in omega arith
+-- the count of the differences, and the differences, seen from the loop
+abbrev counted : tie.In-loop Inv-loop μ-loop → tie.After-count Inv-loop μ-loop
+counted c = c .before .before .before .before
 
-stands : (c : tie.In-loop Inv-loop μ-loop) → entries (c .before .loop .y) ≡ pointOf (boxOf (c .before .before .before .before .before .differences .result)) (c .before .loop .i)
+abbrev made : tie.In-loop Inv-loop μ-loop → tie.After-differences Inv-loop μ-loop
+made c = counted c .before
+
+-- the loop's test: a place of the differences, and y is the difference there
+below : (c : tie.In-loop Inv-loop μ-loop) → c .before .loop .i < countOf (boxOf (made c .differences .result))
+below c = let e = counted c .count .ensures in omega arith
+
+stands : (c : tie.In-loop Inv-loop μ-loop) → entries (c .before .loop .y) ≡ pointOf (boxOf (made c .differences .result)) (c .before .loop .i)
 stands c = c .before .loop .inv .1 (below c)
 
 is-still-requires : tie.Need-is-still-requires Inv-loop μ-loop
-is-still-requires c κs = let d = c .before .before .before .before .before .differences .ensures .0 in (c .before .before .before .before .before .before .pre, gap-sized (c .before .before .before .before .before .differences .result) (c .before .loop .i) _ (d .0) (d .1) (below c) (stands c))
+is-still-requires c κs = let d = made c .differences .ensures .0 in (made c .before .pre, gap-sized (made c .differences .result) (c .before .loop .i) _ (d .0) (d .1) (below c) (stands c))
 
 returns : tie.Need-returns Inv-loop μ-loop
 returns c =
     let l = c .before .before in
-    gap-found _ _ _ (gaps (c .before .before .before .before .before .before .before)) (l .before .loop .i) (below l) (l .before .loop .inv .0) (l .before .loop .y) (stands l) (c .before .is-still .ensures .holds (c .if1 .taken))
+    gap-found _ _ _ (gaps (made l)) (l .before .loop .i) (below l) (l .before .loop .inv .0) (l .before .loop .y) (stands l) (c .before .is-still .ensures .holds (c .if1 .taken))
 
 next-requires : tie.Need-next-requires Inv-loop μ-loop
 next-requires c κs =
     let l = c .before .before in
-    let d = c .before .before .before .before .before .before .before .differences .ensures .0 in
+    let d = made l .differences .ensures .0 in
     (d .0, d .1, stands-in _ (l .before .loop .i) (below l) (stands l))
 
 add-i : tie.Need-add-i Inv-loop μ-loop
@@ -72,10 +79,12 @@ loop-less c = omega arith
 loop-again : tie.Need-loop-again Inv-loop μ-loop
 loop-again c =
     let l = c .before .before .before in
-    (passed-more _ _ _ (l .before .loop .inv .0) (subst (λ y. Still (c .before .before .before .before .before .before .before .before .before .args .j) y → ⊥) (stands l) (c .before .before .is-still .ensures .fails (c .before .if1 .left))), c .next .ensures (l .before .loop .i) (stands l))
+    (passed-more _ _ _ (l .before .loop .inv .0) (subst (λ y. Still (made l .before .args .j) y → ⊥) (stands l) (c .before .before .is-still .ensures .fails (c .before .if1 .left))), c .next .ensures (l .before .loop .i) (stands l))
 
 returns-2 : tie.Need-returns-2 Inv-loop μ-loop
-returns-2 c = gap-nowhere _ _ _ (gaps (c .before .before .before .before .before)) (c .before .loop .i) (let e = c .before .before .before .before .count .ensures in omega arith) (c .before .loop .inv .0)
+returns-2 c =
+    let counted = c .before .before .before .before in
+    gap-nowhere _ _ _ (gaps (counted .before)) (c .before .loop .i) (let e = counted .count .ensures in omega arith) (c .before .loop .inv .0)
 
 pub cell-gap-spec : {M : Type 1} → statement M
 cell-gap-spec = tie.close (tie.spec Inv-loop μ-loop differences-requires count-requires first-place-requires first-gap-requires loop-holds is-still-requires returns next-requires add-i loop-less loop-again returns-2)

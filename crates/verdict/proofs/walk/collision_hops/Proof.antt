@@ -51,12 +51,20 @@ answer c e = answers-as (c .before .time-and-place .ensures) (c .before .before 
 
 returns : tie.Need-returns
 returns c =
-    let s = c .before .before .before .before .before in
-    none-met (s .args .j) (s .args .s) (entries (s .args .y)) (answer (c .before .before) (tag-none (c .before .before .multiple-of .result) (c .before .match .keys2)))
+    let call = c .before .before in
+    let s = call .before .before .before .args in
+    none-met (s .j) (s .s) (entries (s .y)) (answer call (tag-none (call .multiple-of .result) (c .before .match .keys2)))
+
+-- the call of `multiple_of` and the start, seen from the f that it answered
+abbrev call : tie.After-known-told → tie.After-multiple-of
+call c = c .before .before .before
+
+abbrev start : tie.After-known-told → tie.Start
+start c = call c .before .before .before
 
 is-collision-requires : tie.Need-is-collision-requires
 is-collision-requires c κs =
-    let s = c .before .before .before .before .before .before in
+    let s = start c in
     let j = s .args .j in
     let e = sym (s .pre .5) in (
       sized-up (omega arith) (s .pre .4),
@@ -65,20 +73,21 @@ is-collision-requires c κs =
     )
 
 -- the equation of f, as it is read back
-equation : (c : tie.After-is-collision) → way (c .before .before .before .before .before .before .before) ≡ timesOf (held (c .before .before .f .given .0 .0)) (one-hop (c .before .before .before .before .before .before .before))
-equation c =
-    subst (λ (z : ℤ). way (c .before .before .before .before .before .before .before) ≡ timesOf z (one-hop (c .before .before .before .before .before .before .before))) (sym (back (in-range (c .before .known-told .given .0 .1)))) (answer (c .before .before .before .before) (c .before .before .f .given .1))
+equation : (c : tie.After-known-told) → way (start c) ≡ timesOf (held (c .before .f .given .0 .0)) (one-hop (start c))
+equation c = rw (back (in-range (c .known-told .given .0 .1))) (answer (call c) (c .before .f .given .1))
 
 returns-2 : tie.Need-returns-2
 returns-2 c =
-    let s = c .before .before .before .before .before .before .before .before in
-    met (s .args .j) (s .args .s) (entries (s .args .y)) (held (c .before .before .before .f .given .0 .0)) (s .pre .5) (s .pre .3 .hops) (equation (c .before))
+    let told = c .before .before in
+    let s = start told in
+    met (s .args .j) (s .args .s) (entries (s .args .y)) (held (told .before .f .given .0 .0)) (s .pre .5) (s .pre .3 .hops) (equation told)
     (c .before .is-collision .ensures) (c .if1 .taken)
 
 returns-3 : tie.Need-returns-3
 returns-3 c =
-    let s = c .before .before .before .before .before .before .before .before in
-    not-met (s .args .j) (s .args .s) (entries (s .args .y)) (held (c .before .before .before .f .given .0 .0)) (s .pre .5) (s .pre .3 .hops) (equation (c .before))
+    let told = c .before .before in
+    let s = start told in
+    not-met (s .args .j) (s .args .s) (entries (s .args .y)) (held (told .before .f .given .0 .0)) (s .pre .5) (s .pre .3 .hops) (equation told)
     (c .before .is-collision .ensures) (s .pre .2) (c .if1 .left)
 
 pub collision-hops-spec : {M : Type 1} → statement M

@@ -1,3 +1,4 @@
+-- Three tests that an entry is 0 tell that Hy and Sy are.
 use mathlib.Core.Path.{_≡_, sym, _∙_}
 use lib.Dec.{eqb}
 use lib.IntN.{ℤ, pos}
@@ -21,7 +22,8 @@ of-entry f e = tells-as (λ h. sym e ∙ h) (λ h. e ∙ h) (tells-zero f)
 returns : tie.Need-returns
 returns c =
     let v = c .struct-told3 .given in
-    let e = unfour (c .before .before .before .before .before .before .time-and-place .ensures) in
+    let read = c .before .before .before in
+    let e = unfour (read .before .before .before .time-and-place .ensures) in
     tells-as (λ h. (h .0, two (h .1 .0) (h .1 .1))) (λ h. let w = untwo (h .1) in (h .0, (w .0, w .1)))
     (tells-and _ _ (of-entry (in-range (v .0 .1)) (e .0)) (tells-and _ _ (of-entry (in-range (v .1 .0 .1)) (e .1)) (of-entry (in-range (v .1 .1 .0 .1)) (e .2))))
 

@@ -1,6 +1,7 @@
+-- The room count in the verdict on the record.
 use borrow.Author.Needs.{needs}
-use Rattle.replies.proofs.bytes.room_of.Statement.{statement}
-use Rattle.replies.proofs.bytes.room_of.Tie as tie
+use Rattle.verdict.proofs.room.room_of.Statement.{statement}
+use Rattle.verdict.proofs.room.room_of.Tie as tie
 
 verdict-of-requires : tie.Need-verdict-of-requires
 verdict-of-requires c κs = search needs

@@ -1,8 +1,9 @@
+-- Each case of the verdict is its own room count.
 use mathlib.Core.Path.{sym, ap}
 use borrow.Author.Needs.{needs}
-use Rattle.replies.specs.Bytes.{roomOf}
-use Rattle.replies.proofs.bytes.room_in.Statement.{statement}
-use Rattle.replies.proofs.bytes.room_in.Tie as tie
+use Rattle.verdict.specs.Rooms.{roomOf}
+use Rattle.verdict.proofs.room.room_in.Statement.{statement}
+use Rattle.verdict.proofs.room.room_in.Tie as tie
 
 enum-known-v : tie.Need-enum-known-v
 enum-known-v c = search needs
