@@ -34,10 +34,10 @@ fn worked(j: Job, t: u64, x: u64) {
     say(b" ");
     let w = array::lookup::point_at(j, t, x);
     match w {
-        Worked::At(p) => crate::print::point(p, j.n),
-        Worked::Nowhere => say(b"-"),
-        Worked::Refused(v) => {
-            let a = replies::numbers::answer_of(v);
+        Lookup::At(p) => crate::print::point(p, j.n),
+        Lookup::Nowhere => say(b"-"),
+        Lookup::Refused(v) => {
+            let a = verdict::numbers::in_numbers(v);
             say(b"refused");
             number(wide(a.number));
         }
