@@ -1,3 +1,4 @@
+-- By the reply of the look-up: the coordinates as they are read back, no point, or the number of refusal, made wider.
 use mathlib.Core.Path.{_∙_, refl, subst}
 use borrow.Author.Needs.{needs}
 use Rattle.space.proofs.Machine.{in-range, back}

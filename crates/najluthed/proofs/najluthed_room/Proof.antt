@@ -1,3 +1,4 @@
+-- By the reply: the room count, or the number of refusal, made wider.
 use mathlib.Core.Path.{_∙_, refl, subst}
 use borrow.Author.Needs.{needs}
 use Rattle.replies.specs.Bytes.{SaysOf, Counts}

@@ -1,3 +1,4 @@
+-- The verdict in numbers: number and stream made wider, the hops as they are read back.
 use mathlib.Core.Path.{_∙_}
 use borrow.Author.Needs.{needs}
 use Rattle.space.proofs.Machine.{in-range, back}
