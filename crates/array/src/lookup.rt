@@ -49,7 +49,7 @@ pub fn point_judged(j: Job, v: Verdict, t: u64, x: u64) -> Lookup
 }
 
 // The number and the point of a look-up.
-pub fn looked(l: Lookup) -> Looked
+pub fn in_numbers(l: Lookup) -> Looked
     ensures { λ r. ⌜ r ≡ lookedOf l ⌝ }
 {
     match l {

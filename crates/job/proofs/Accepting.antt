@@ -46,18 +46,18 @@ module _ (j : Job) (a : Acceptable j) where
       firsts-at (λ (v : Vector). Sized rowLimit (entries v)) (1 + j .k) 0 (rowsOf j) zeroVector i (a .rowed) (omega arith) (omega arith)
 
   -- and so are all rows, used or not
-  pub time-sized : Sized 127 (entries (j .time))
+  pub time-sized : Sized rowLimit (entries (j .time))
   time-sized = a .rowed .0 (omega arith)
 
-  pub row0-sized : Sized 127 (entries (j .row0))
+  pub row0-sized : Sized rowLimit (entries (j .row0))
   row0-sized = let k = a .shaped .places in a .rowed .1 .0 (omega arith)
 
-  pub row1-sized : Sized 127 (entries (j .row1))
+  pub row1-sized : Sized rowLimit (entries (j .row1))
   row1-sized = by (decLe 2 (j .k))
     where
-      by : Dec (2 ≤ j .k) → Sized 127 (entries (j .row1))
+      by : Dec (2 ≤ j .k) → Sized rowLimit (entries (j .row1))
       by (yes h) = a .rowed .1 .1 .0 (omega arith)
-      by (no h) = empty-sized 127 (j .row1) (a .shaped .idle-rows .1 .1 .0 (omega arith))
+      by (no h) = empty-sized rowLimit (j .row1) (a .shaped .idle-rows .1 .1 .0 (omega arith))
 
   -- the bounds are small, l ≤ u for each, and the points are as small
   pub low-sized : Sized coordinate (entries (j .bounds .low))

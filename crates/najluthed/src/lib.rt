@@ -137,7 +137,7 @@ pub extern "C" fn najluthed_loop(job: &[u8], input: &[u32], values: &mut [u32]) 
 pub extern "C" fn najluthed_point(job: &[u8], tick: u64, cell: u64) -> PointReply
     ensures { λ a. ⌜ AnswersPoint (now (job .entry)) tick cell a ⌝ }
 {
-    point_of(array::lookup::looked(calls::point_at_bytes(job, tick, cell)))
+    point_of(array::lookup::in_numbers(calls::point_at_bytes(job, tick, cell)))
 }
 
 // A number and a count, for C.

@@ -10,7 +10,7 @@ use Rattle.space.specs.Vectors.{entries, Sized}
 use Rattle.job.specs.declared.Stream.{Stream}
 use Rattle.job.specs.declared.Job.{Job}
 use Rattle.job.specs.Refusals.{First}
-use Rattle.job.specs.Limits.{Unused, Idle, Shaped, Sound, Acceptable}
+use Rattle.job.specs.Limits.{Unused, Idle, Shaped, Sound, Acceptable, rowLimit}
 use Rattle.job.proofs.Refusing.{first-unique, acceptable}
 use Rattle.job.proofs.Accepting.{empty-sized}
 use Rattle.layout.specs.Layout.{streamsFrom, matricesFrom, totalOf, headerOf, fileOf, InBytes, Lays}
@@ -42,7 +42,7 @@ stream-held : (i m : ℕ) (t : Stream) → (i < m → Sound m t) → (m ≤ i �
 stream-held i m t f g = by-place i m (λ h. sized-held (omega arith) (f h .small)) (λ h. unused-held (t .d) (g h .vector))
 
 -- a row that is under its limit where it is used
-row-held : (i m : ℕ) (v : Vector) → (i < m → Sized 127 (entries v)) → (m ≤ i → Unused 0 v) → InBytes v
+row-held : (i m : ℕ) (v : Vector) → (i < m → Sized rowLimit (entries v)) → (m ≤ i → Unused 0 v) → InBytes v
 row-held i m v f g = by-place i m (λ h. sized-held (omega arith) (f h)) (λ h. unused-held v (g h))
 
 -- so it is laid out by its file

@@ -5,7 +5,7 @@ use Prim.Native.Nat.{ℕ, _+_, _*_, _/_, _%_, _<_, _≤_}
 use native.Mathlib.Omega.{arith}
 use native.Mathlib.Nat.{mod-lt, div-lt-iff-lt-mul}
 use lib.IntN.{ℤ, pos, _+ℤ_}
-use Rattle.space.specs.Numbers.{difference}
+use Rattle.space.specs.Numbers.{difference, sideLimit}
 use Rattle.space.specs.Vectors.{entries, plusOf, Sized}
 use Rattle.space.specs.Boxes.{side, boxOf, across, countOf, pointOf}
 use Rattle.space.specs.declared.boxes.Bounds.{Bounds}
@@ -56,7 +56,7 @@ abbrev AreLengths : Counts → Bounds → Type 0
 AreLengths n b = (n .n0 ∷ n .n1 ∷ n .n2 ∷ n .n3 ∷ []) ≡ map across (boxOf b)
 
 module _ (n : Counts) (b : Bounds) (e : AreLengths n b) where
-  pub lengths-small : Sized difference (entries (b .low)) → Sized difference (entries (b .high)) → (n .n0 ≤ 8189) × (n .n1 ≤ 8189) × (n .n2 ≤ 8189) × (n .n3 ≤ 8189)
+  pub lengths-small : Sized difference (entries (b .low)) → Sized difference (entries (b .high)) → (n .n0 ≤ sideLimit) × (n .n1 ≤ sideLimit) × (n .n2 ≤ sideLimit) × (n .n3 ≤ sideLimit)
   lengths-small l u =
       let are = unfour e in
       let p = l .each in

@@ -104,8 +104,12 @@ least-size {a} b {h} {B} {r} p w L = subst (Size (length h * (a * b))) (L .met .
 greatest-size : {a : ℕ} (b : ℕ) {h : List ℤ} {B : Box} {r : ℤ} → Sized a h → SidesSized b B → Greatest h B r → Size (length h * (a * b)) r
 greatest-size {a} b {h} {B} p w G = subst (Size (length h * (a * b))) (G .met .2) (dot-size p (in-sized b B (G .met .0) w (G .met .1)))
 
--- of four entries at the largest limits of a job
-pub ends-small : {h : List ℤ} {B : Box} {l u : ℤ} → length h ≡ 4 → Sized entry h → SidesSized coordinate B → Least h B l → Greatest h B u → Size 8376324 l × Size 8376324 u
+-- the product of a row and a point, at the largest limits of a job
+abbrev pub productLimit : ℕ
+productLimit = 4 * (entry * coordinate)
+
+-- of four entries at these limits
+pub ends-small : {h : List ℤ} {B : Box} {l u : ℤ} → length h ≡ 4 → Sized entry h → SidesSized coordinate B → Least h B l → Greatest h B u → Size productLimit l × Size productLimit u
 ends-small e p w L G = (rw e at (least-size coordinate p w L), rw e at (greatest-size coordinate p w G))
 
 -- ---- there is one of each

@@ -6,7 +6,7 @@ ghost use mathlib.Core.List.{List, [], _∷_, map, zipWith};
 ghost use Prim.Native.Nat.{ℕ, _+_, _*_, _<_, _≤_};
 ghost use lib.IntN.{ℤ, pos};
 ghost use lib.Signed.{ltZ, _≤ℤ_};
-ghost use Rattle.space.specs.Numbers.{Size, Tells, steps, coordinate, difference, entry, limit};
+ghost use Rattle.space.specs.Numbers.{Size, Tells, steps, coordinate, difference, sideLimit, entry, limit};
 ghost use Rattle.space.specs.Vectors.{entries, dotOf, plusOf, Sized};
 ghost use Rattle.space.specs.Order.{AtMost};
 ghost use Rattle.space.specs.Boxes.{In, Apart, Solid, boxOf, across, countOf, placeOf, pointOf, PointAt, backOf, foundOf, Least, Greatest, Reaches};
@@ -239,8 +239,8 @@ fn lengths(b: Bounds) -> Counts
 
 // What the point at place k has over the low corner of any box with n points on each side: the digits of k.
 fn offset(k: u64, n: Counts) -> Vector
-    requires { ⌜ (n .n0 ≤ 8189) × (n .n1 ≤ 8189) × (n .n2 ≤ 8189) × (n .n3 ≤ 8189) × (k < n .n0 * (n .n1 * (n .n2 * n .n3))) ⌝ }
-    ensures sized { λ r. ⌜ Sized 8189 (entries r) ⌝ }
+    requires { ⌜ (n .n0 ≤ sideLimit) × (n .n1 ≤ sideLimit) × (n .n2 ≤ sideLimit) × (n .n3 ≤ sideLimit) × (k < n .n0 * (n .n1 * (n .n2 * n .n3))) ⌝ }
+    ensures sized { λ r. ⌜ Sized sideLimit (entries r) ⌝ }
     ensures leads { λ r. ⌜ ((b : Bounds) → (n .n0 ∷ n .n1 ∷ n .n2 ∷ n .n3 ∷ []) ≡ map across (boxOf b) → plusOf (entries (b .low)) (entries r) ≡ pointOf (boxOf b) k) ⌝ }
 {
     let behind_1 = n.n2 * n.n3;

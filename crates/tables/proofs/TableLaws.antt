@@ -17,7 +17,7 @@ use Rattle.space.proofs.Telling.{tells-and, tells-eq}
 use Rattle.space.proofs.BackLaws.{back-before}
 use Rattle.job.specs.declared.Job.{Job}
 use Rattle.job.specs.Refusals.{done}
-use Rattle.job.specs.Limits.{Acceptable}
+use Rattle.job.specs.Limits.{Acceptable, pointLimit}
 use Rattle.job.proofs.Accepting.{stream-sound}
 use Rattle.job.specs.Record.{box, stream, along, points}
 use Rattle.tables.specs.Tables.{Long, entryFor, previous}
@@ -47,11 +47,11 @@ tables-same j = rows-same (j .m) (points j)
 pub tells-long : (j : Job) {n : ℕ} (a b : ℕ) → n ≡ j .m * points j → Tells (Long j a b) (eqb a n && eqb b n)
 tells-long j {n} a b e = subst (λ (k : ℕ). Tells ((a ≡ k) × (b ≡ k)) (eqb a n && eqb b n)) e (tells-and _ _ (tells-eq a n) (tells-eq b n))
 
--- an acceptable job has at most 4 streams and 1,024 points
+-- an acceptable job has few streams and few points
 pub few-streams : {j : Job} → Acceptable j → j .m ≤ 4
 few-streams a = a .shaped .streams .1
 
-pub few-points : {j : Job} → Acceptable j → points j ≤ 1024
+pub few-points : {j : Job} → Acceptable j → points j ≤ pointLimit
 few-points a = a .boxed .points
 
 -- the sources of a stream are streams

@@ -36,11 +36,13 @@ total-of-requires c κs = search needs
 
 returns : tie.Need-returns
 returns c =
-    let box = c .before .before .before .before .before .before in
+    let after-matrices-from = c .before .before in
+    let after-pair2 = after-matrices-from .before .before .before in
+    let box = after-pair2 .before in
     let n = box .before .before .before in
-    rw (c .before .before .before .before .streams-from .ensures, c .before .before .matrices-from .ensures, c .total-of .ensures)
+    rw (after-matrices-from .before .before .streams-from .ensures, after-matrices-from .matrices-from .ensures, c .total-of .ensures)
     (rw (n .byte .ensures .0, box .before .before .byte2 .ensures .0, box .before .byte3 .ensures .0)
-    (rw (box .pair .ensures, c .before .before .before .before .before .pair2 .ensures, c .before .before .before .pair3 .ensures, c .before .pair4 .ensures)
+    (rw (box .pair .ensures, after-pair2 .pair2 .ensures, after-matrices-from .before .pair3 .ensures, c .before .pair4 .ensures)
     (tells-as
     (λ h. record { box = h .0 .0; streams = h .0 .1; matrices = h .1 .0; total = h .1 .1 })
     (λ h. ((h .box, h .streams), (h .matrices, h .total)))

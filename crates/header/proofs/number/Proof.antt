@@ -19,13 +19,17 @@ past1 c r f = inl (omega arith, f)
 past2 : (c : tie.Else2) (r : ℕ) → First (later 2 (headChecks (now (c .before .before .before .before .args .s)))) r → First (headChecks (now (c .before .before .before .before .args .s))) r
 past2 c r f = past1 (c .before) r (inl (omega (arith, c .before .before .pair .ensures), f))
 
-counted : (c : tie.Else3) → Counted (now (c .before .before .before .before .before .before .args .s))
+-- where the function starts
+abbrev start : tie.Else3 → tie.Start
+start c = c .before .before .before .before .before .before
+
+counted : (c : tie.Else3) → Counted (now (start c .args .s))
 counted c = granted _ (c .before .is-counted .ensures) (c .if3 .left)
 
-past3 : (c : tie.Else3) (r : ℕ) → First (later 3 (headChecks (now (c .before .before .before .before .before .before .args .s)))) r → First (headChecks (now (c .before .before .before .before .before .before .args .s))) r
+past3 : (c : tie.Else3) (r : ℕ) → First (later 3 (headChecks (now (start c .args .s)))) r → First (headChecks (now (start c .args .s))) r
 past3 c r f = past2 (c .before .before) r (inl (counted c, f))
 
-past4 : (c : tie.Else4) (r : ℕ) → First (later 4 (headChecks (now (c .before .before .before .before .before .before .before .before .args .s)))) r → First (headChecks (now (c .before .before .before .before .before .before .before .before .args .s))) r
+past4 : (c : tie.Else4) (r : ℕ) → First (later 4 (headChecks (now (start (c .before .before) .args .s)))) r → First (headChecks (now (start (c .before .before) .args .s))) r
 past4 c r f = past3 (c .before .before) r (inl (granted _ (c .before .is-placed .ensures) (c .if4 .left), f))
 
 pair-requires : tie.Need-pair-requires

@@ -1,3 +1,4 @@
+-- Row i by its number: where it is not 0 or 1 it is 2.
 use native.Mathlib.Omega.{arith}
 use mathlib.Core.Path.{_≡_}
 use borrow.Author.Needs.{needs}

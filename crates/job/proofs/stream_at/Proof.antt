@@ -1,3 +1,4 @@
+-- Stream s by its number: where it is not 0, 1 or 2 it is 3.
 use native.Mathlib.Omega.{arith}
 use mathlib.Core.Path.{_≡_}
 use borrow.Author.Needs.{needs}

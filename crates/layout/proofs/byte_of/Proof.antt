@@ -1,3 +1,4 @@
+-- z + 256 where z is negative, z where it is not: from 0 to 255, and the byte of the definition.
 use mathlib.Core.Path.{ap, _∙_}
 use lib.IntN.{ℤ, pos, natAbs, _+ℤ_}
 use mir.Syntax.{w8}

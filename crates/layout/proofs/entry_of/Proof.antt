@@ -1,3 +1,4 @@
+-- A byte below 128 is its own entry; of any other the entry is 256 less.
 use mathlib.Core.Path.{sym, subst, _≡_}
 use native.Mathlib.Omega.{arith}
 use lib.IntN.{ℤ, pos, _-ℤ_}

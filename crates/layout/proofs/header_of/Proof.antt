@@ -1,3 +1,4 @@
+-- The offsets are those of the definitions, each in two bytes, the low one first.
 use borrow.Author.Needs.{needs}
 use Rattle.layout.specs.Layout.{headerOf}
 use Rattle.layout.proofs.header_of.Statement.{statement}

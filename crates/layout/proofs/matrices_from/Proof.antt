@@ -1,3 +1,4 @@
+-- The sum as the document writes it; the streams have few bytes, so it fits.
 use native.Mathlib.Omega.{arith}
 use borrow.Author.Needs.{needs}
 use Rattle.layout.proofs.Totals.{streams-few}

@@ -1,3 +1,4 @@
+-- The sum as the document writes it; it is at most 68, so it fits.
 use native.Mathlib.Omega.{arith}
 use borrow.Author.Needs.{needs}
 use Rattle.layout.proofs.Totals.{total-small}

@@ -1,3 +1,4 @@
+-- By the loop's reply: its point count, or its number of refusal, made wider.
 use mathlib.Core.Path.{refl, subst}
 use borrow.Author.Needs.{needs}
 use Rattle.array.specs.LoopBytes.{LoopsOf}

@@ -30,7 +30,10 @@ number-requires-2 : tie.Need-number-requires-2
 number-requires-2 c κs = search needs
 
 returns-2 : tie.Need-returns-2
-returns-2 c = (record-first (now (c .before .before .before .before .before .before .args .s)) (passed (c .before .before .before)) _ (c .before .before .job-of .ensures) _ (c .before .number2 .ensures), λ e. omega (arith, c .if2 .taken))
+returns-2 c =
+    let else1 = c .before .before .before in
+    let start = else1 .before .before .before in
+    (record-first (now (start .args .s)) (passed else1) _ (c .before .before .job-of .ensures) _ (c .before .number2 .ensures), λ e. omega (arith, c .if2 .taken))
 
 returns-3 : tie.Need-returns-3
 returns-3 c = (accepted _ (omega (arith, c .if2 .left)) (c .before .number2 .ensures), c .before .before .job-of .ensures .file)

@@ -36,39 +36,57 @@ new-value-requires c κs =
 
 place-in-table-requires : tie.Need-place-in-table-requires Inv-loop μ-loop
 place-in-table-requires c κs =
-    let p = c .before .before .before .before .before .pre in
+    let turn = c .before .before in
+    let start = turn .before .before .before in
+    let p = start .pre in
     let m = few-streams (p .0 .good) in
     let n = few-points (p .0 .good) in
-    (omega (arith, c .before .before .loop-test .taken), omega (arith, p .0 .count), omega (arith, p .0 .count, p .1))
+    (omega (arith, turn .loop-test .taken), omega (arith, p .0 .count), omega (arith, p .0 .count, p .1))
+
+-- moments of the walk: where the loop is reached; where the function starts
+abbrev at-loop : tie.After-place-in-table Inv-loop μ-loop → tie.At-loop Inv-loop μ-loop
+at-loop c = c .before .before .before .before
+
+abbrev start : tie.After-place-in-table Inv-loop μ-loop → tie.Start Inv-loop μ-loop
+start c = at-loop c .before .before
 
 -- where it is written
-at : (c : tie.After-place-in-table Inv-loop μ-loop) → c .place-in-table .result ≡ c .before .before .before .before .loop .s * points (c .before .before .before .before .before .before .args .j) + c .before .before .before .before .before .before .args .k
-at c = place-as (c .before .before .before .before .before .before .args .j) _ _ (c .place-in-table .ensures .1) (c .before .before .before .before .before .before .pre .0 .count)
+at : (c : tie.After-place-in-table Inv-loop μ-loop) → c .place-in-table .result ≡ at-loop c .loop .s * points (start c .args .j) + start c .args .k
+at c = place-as (start c .args .j) _ _ (c .place-in-table .ensures .1) (start c .pre .0 .count)
 
-low : (c : tie.After-place-in-table Inv-loop μ-loop) → c .before .before .before .before .before .before .args .k < points (c .before .before .before .before .before .before .args .j)
-low c = omega (arith, c .before .before .before .before .before .before .pre .0 .count, c .before .before .before .before .before .before .pre .1)
+low : (c : tie.After-place-in-table Inv-loop μ-loop) → start c .args .k < points (start c .args .j)
+low c = omega (arith, start c .pre .0 .count, start c .pre .1)
 
 mul-values : tie.Need-mul-values Inv-loop μ-loop
 mul-values c = omega (arith, c .place-in-table .ensures .0)
 
 slice-write-values : tie.Need-slice-write-values Inv-loop μ-loop
-slice-write-values c = omega (arith, at c, entry-in (c .before .before .before .before .before .before .args .j) (c .before .before .before .before .loop .s) (c .before .before .before .before .before .before .args .k) (c .before .before .before .loop-test .taken) (low c), c .before .before .before .before .loop .inv .1 .size)
+slice-write-values c =
+    let at-loop = at-loop c in
+    let args = at-loop .before .before .args in
+    omega (arith, at c, entry-in (args .j) (at-loop .loop .s) (args .k) (c .before .before .before .loop-test .taken) (low c), at-loop .loop .inv .1 .size)
 
 add-s : tie.Need-add-s Inv-loop μ-loop
-add-s c = let m = few-streams (c .before .before .before .before .before .before .pre .0 .good) in omega (arith, c .before .before .before .loop-test .taken)
+add-s c =
+    let turn = c .before .before .before in
+    let m = few-streams (start c .pre .0 .good) in omega (arith, turn .loop-test .taken)
 
 loop-less : tie.Need-loop-less Inv-loop μ-loop
 loop-less c = omega arith
 
 -- what is written is the new value
-new : (c : tie.After-place-in-table Inv-loop μ-loop) → c .before .new-value .result ≡ work (c .before .before .before .before .before .before .args .j) (c .before .before .before .before .loop .s) (λ (u : ℕ). getD (c .before .before .before .before .before .before .args .got) u 0)
-new c = c .before .new-value .ensures ∙ ap (λ (t : Stream). ruled (t .rule) (getD (c .before .before .before .before .before .before .args .got) (c .before .before .before .before .loop .s) 0) (getD (c .before .before .before .before .before .before .args .got) (t .a) 0) (getD (c .before .before .before .before .before .before .args .got) (t .b) 0)) (c .before .before .stream-at .ensures)
+new : (c : tie.After-place-in-table Inv-loop μ-loop) → c .before .new-value .result ≡ work (start c .args .j) (at-loop c .loop .s) (λ (u : ℕ). getD (start c .args .got) u 0)
+new c =
+    let at-loop = at-loop c in
+    let args = at-loop .before .before .args in
+    c .before .new-value .ensures ∙ ap (λ (t : Stream). ruled (t .rule) (getD (args .got) (at-loop .loop .s) 0) (getD (args .got) (t .a) 0) (getD (args .got) (t .b) 0)) (c .before .before .stream-at .ensures)
 
 loop-again : tie.Need-loop-again Inv-loop μ-loop
 loop-again c =
-    let a = c .before .before .before .before .before .before .args in
-    let l = c .before .before .before .before .loop in
-    (omega (arith, c .before .before .before .loop-test .taken), subst (λ i. Column (a .j) (a .k) (a .got) (now (a .values)) (l .s + 1) (set (l .values) i (c .before .new-value .result))) (sym (at c)) (column-step (a .j) (a .k) (a .got) (now (a .values)) (l .values) (l .s) (c .before .new-value .result) (l .inv .1) (c .before .before .before .loop-test .taken) (low c) (new c)))
+    let turn = c .before .before .before in
+    let a = start c .args in
+    let l = turn .before .loop in
+    (omega (arith, turn .loop-test .taken), subst (λ i. Column (a .j) (a .k) (a .got) (now (a .values)) (l .s + 1) (set (l .values) i (c .before .new-value .result))) (sym (at c)) (column-step (a .j) (a .k) (a .got) (now (a .values)) (l .values) (l .s) (c .before .new-value .result) (l .inv .1) (turn .loop-test .taken) (low c) (new c)))
 
 same-length : tie.Need-same-length Inv-loop μ-loop
 same-length c = c .before .loop .inv .1 .size ∙ sym (c .before .before .before .pre .0 .size)

@@ -1,3 +1,4 @@
+-- Each stream is asked where its number is below m.
 use borrow.Author.Needs.{needs}
 use Rattle.space.proofs.Telling.{tells-and, tells-where, tells-below}
 use Rattle.job.proofs.Shapes.{last-one}

@@ -10,7 +10,7 @@ use Rattle.space.proofs.Machine.{never}
 use Rattle.space.proofs.Telling.{tells-as, tells-and, tells-le, granted, denied}
 use Rattle.space.proofs.VectorLaws.{sized-up}
 use Rattle.space.proofs.BoxLaws.{in-solid, solid-in}
-use Rattle.job.specs.Limits.{boundLimit}
+use Rattle.job.specs.Limits.{boundLimit, pointLimit}
 use Rattle.job.proofs.limits.is_boxed.Statement.{statement}
 use Rattle.job.proofs.limits.is_boxed.Tie as tie
 
@@ -35,12 +35,14 @@ count-requires c κs = let s = granted _ (both (c .before .before)) (c .before .
 
 returns-2 : tie.Need-returns-2
 returns-2 c =
-    let s = granted _ (both (c .before .before .before)) (c .before .before .if1 .left) in
-    let B = boxOf (c .before .before .before .before .before .before .before .args .b) in
+    let sized2 = c .before .before .before in
+    let start = sized2 .before .before .before .before in
+    let s = granted _ (both sized2) (c .before .before .if1 .left) in
+    let B = boxOf (start .args .b) in
     tells-as
     (λ h. record { low = s .0; high = s .1; solid = in-solid B _ (h .0); points = rw (c .count .ensures) at (h .1) })
     (λ h. (solid-in B (h .solid), rw (← c .count .ensures) at (h .points)))
-    (tells-and _ _ (c .before .contains .ensures) (tells-le _ 1024))
+    (tells-and _ _ (c .before .contains .ensures) (tells-le _ pointLimit))
 
 pub is-boxed-spec : {M : Type 1} → statement M
 is-boxed-spec = tie.close (tie.spec is-sized-requires is-sized-requires-2 returns contains-requires count-requires returns-2)

@@ -1,3 +1,4 @@
+-- H is asked always, and row i of S where k counts it.
 use Prim.Native.Nat.{ℕ, _+_, _<_}
 use native.Mathlib.Omega.{arith}
 use mathlib.Core.Bool.{Bool, not, _||_}

@@ -1,3 +1,4 @@
+-- Rule 0 with sources 0, or rule 1 or 2 with both below m: each test tells its part.
 use Rattle.space.proofs.Telling.{tells-as, tells-and, tells-or, tells-eq, tells-le, tells-below}
 use Rattle.job.proofs.limits.is_ruled.Statement.{statement}
 use Rattle.job.proofs.limits.is_ruled.Tie as tie

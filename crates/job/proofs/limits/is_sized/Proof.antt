@@ -1,3 +1,4 @@
+-- The size of each entry, as `size` works it out, is tested against the limit.
 use mathlib.Core.Path.{_≡_, refl}
 use Prim.Native.Nat.{ℕ}
 use lib.Dec.{leb}
@@ -28,11 +29,12 @@ of-field {x = x} most f e = rw (size-read refl f e) (tells-as (λ h. record { si
 
 returns : tie.Need-returns
 returns c =
+    let after-size2 = c .before .before .before .before in
     let v = c .before .struct-told4 .given in
     tells-as (λ h. record { each = (h .0, (h .1 .0, (h .1 .1 .0, (h .1 .1 .1, tt)))) })
     (λ h. (h .each .0, (h .each .1 .0, (h .each .1 .1 .0, h .each .1 .1 .1 .0))))
-    (tells-and _ _ (of-field _ (in-range (v .0 .1)) (c .before .before .before .before .before .before .size .ensures))
-    (tells-and _ _ (of-field _ (in-range (v .1 .0 .1)) (c .before .before .before .before .size2 .ensures))
+    (tells-and _ _ (of-field _ (in-range (v .0 .1)) (after-size2 .before .before .size .ensures))
+    (tells-and _ _ (of-field _ (in-range (v .1 .0 .1)) (after-size2 .size2 .ensures))
     (tells-and _ _ (of-field _ (in-range (v .1 .1 .0 .1)) (c .before .before .size3 .ensures)) (of-field _ (in-range (v .1 .1 .1 .0 .1)) (c .size4 .ensures)))))
 
 pub is-sized-spec : {M : Type 1} → statement M

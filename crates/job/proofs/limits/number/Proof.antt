@@ -1,3 +1,4 @@
+-- The first question that is answered no gives its number, and those before it are answered yes.
 use mathlib.Core.Path.{refl}
 use mathlib.Core.Logic.{inl, inr}
 use borrow.Author.Needs.{needs}
@@ -22,9 +23,11 @@ are-sound-requires c κs = search needs
 
 returns-3 : tie.Need-returns-3
 returns-3 c =
+    let boxed = c .before .before .before in
+    let else1 = boxed .before .before in
     inl (
-      granted _ (c .before .before .before .before .before .before .is-shaped .ensures) (c .before .before .before .before .before .if1 .left),
-      inl (granted _ (c .before .before .before .is-boxed .ensures) (c .before .before .if2 .left), inr (denied _ (c .before .are-sound .ensures) (c .if3 .taken), refl)),
+      granted _ (else1 .before .is-shaped .ensures) (else1 .if1 .left),
+      inl (granted _ (boxed .is-boxed .ensures) (c .before .before .if2 .left), inr (denied _ (c .before .are-sound .ensures) (c .if3 .taken), refl)),
     )
 
 is-rowed-requires : tie.Need-is-rowed-requires
@@ -32,21 +35,27 @@ is-rowed-requires c κs = search needs
 
 returns-4 : tie.Need-returns-4
 returns-4 c =
+    let sound = c .before .before .before in
+    let boxed = sound .before .before in
+    let else1 = boxed .before .before in
     inl (
-      granted _ (c .before .before .before .before .before .before .before .before .is-shaped .ensures) (c .before .before .before .before .before .before .before .if1 .left),
+      granted _ (else1 .before .is-shaped .ensures) (else1 .if1 .left),
       inl (
-        granted _ (c .before .before .before .before .before .is-boxed .ensures) (c .before .before .before .before .if2 .left),
-        inl (granted _ (c .before .before .before .are-sound .ensures) (c .before .before .if3 .left), inr (denied _ (c .before .is-rowed .ensures) (c .if4 .taken), refl)),
+        granted _ (boxed .is-boxed .ensures) (sound .before .if2 .left),
+        inl (granted _ (sound .are-sound .ensures) (c .before .before .if3 .left), inr (denied _ (c .before .is-rowed .ensures) (c .if4 .taken), refl)),
       ),
     )
 
 returns-5 : tie.Need-returns-5
 returns-5 c =
+    let sound = c .before .before .before in
+    let boxed = sound .before .before in
+    let else1 = boxed .before .before in
     inl (
-      granted _ (c .before .before .before .before .before .before .before .before .is-shaped .ensures) (c .before .before .before .before .before .before .before .if1 .left),
+      granted _ (else1 .before .is-shaped .ensures) (else1 .if1 .left),
       inl (
-        granted _ (c .before .before .before .before .before .is-boxed .ensures) (c .before .before .before .before .if2 .left),
-        inl (granted _ (c .before .before .before .are-sound .ensures) (c .before .before .if3 .left), inl (granted _ (c .before .is-rowed .ensures) (c .if4 .left), refl)),
+        granted _ (boxed .is-boxed .ensures) (sound .before .if2 .left),
+        inl (granted _ (sound .are-sound .ensures) (c .before .before .if3 .left), inl (granted _ (c .before .is-rowed .ensures) (c .if4 .left), refl)),
       ),
     )
 

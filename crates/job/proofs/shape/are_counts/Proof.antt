@@ -1,3 +1,4 @@
+-- Two tests for each count.
 use Rattle.space.proofs.Telling.{tells-and, tells-le}
 use Rattle.job.proofs.shape.are_counts.Statement.{statement}
 use Rattle.job.proofs.shape.are_counts.Tie as tie

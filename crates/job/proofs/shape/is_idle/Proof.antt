@@ -1,3 +1,4 @@
+-- No coordinate of d is used, and the four numbers are 0.
 use borrow.Author.Needs.{needs}
 use Rattle.space.proofs.Telling.{tells-and, tells-eq}
 use Rattle.job.proofs.Shapes.{tells-idle}

@@ -1,3 +1,4 @@
+-- The counts, both bounds, the streams and the rows, as each question tells.
 use borrow.Author.Needs.{needs}
 use Rattle.space.proofs.Telling.{tells-and}
 use Rattle.job.proofs.Shapes.{tells-shaped}

@@ -1,3 +1,4 @@
+-- By the flag: a row that is used is asked from n on, another from 0 on.
 use borrow.Author.Needs.{needs}
 use Rattle.space.proofs.Telling.{tells-and, tells-where, tells-unless, tells-flag}
 use Rattle.job.proofs.shape.row_shaped.Statement.{statement}

@@ -1,3 +1,4 @@
+-- By the flag: a stream that is used is asked from n on, another whether it is idle.
 use borrow.Author.Needs.{needs}
 use Rattle.space.proofs.Telling.{tells-and, tells-where, tells-unless, tells-flag}
 use Rattle.job.proofs.shape.stream_shaped.Statement.{statement}

@@ -42,23 +42,30 @@ stream-or-requires-3 c κs = streams-room (c .before .before .before)
 stream-or-requires-4 : tie.Need-stream-or-requires-4
 stream-or-requires-4 c κs = streams-room (c .before .before .before .before)
 
+-- moments of the walk: where the counts are read; where the function starts
+abbrev counts : tie.After-stream-or4 → tie.After-byte3
+counts c = c .before .before .before .before .before
+
+abbrev start : tie.After-shared-slice-known2 → tie.Start
+start c = counts (c .before .before .before .before) .before .before .before .before
+
 row-or-requires : tie.Need-row-or-requires
-row-or-requires c κs = rows-room (c .before .before .before .before .before)
+row-or-requires c κs = rows-room (counts c)
 
 row-or-requires-2 : tie.Need-row-or-requires-2
-row-or-requires-2 c κs = rows-room (c .before .before .before .before .before .before)
+row-or-requires-2 c κs = rows-room (counts (c .before))
 
 row-or-requires-3 : tie.Need-row-or-requires-3
-row-or-requires-3 c κs = rows-room (c .before .before .before .before .before .before .before)
+row-or-requires-3 c κs = rows-room (counts (c .before .before))
 
 shared-slice-read-t14 : tie.Need-shared-slice-read-t14
-shared-slice-read-t14 c = omega (arith, c .before .before .before .before .before .before .before .before .before .before .before .before .before .pre .long)
+shared-slice-read-t14 c = omega (arith, start c .pre .long)
 
 shared-slice-read-t16 : tie.Need-shared-slice-read-t16
-shared-slice-read-t16 c = omega (arith, c .before .before .before .before .before .before .before .before .before .before .before .before .before .before .pre .long)
+shared-slice-read-t16 c = omega (arith, start (c .before) .pre .long)
 
 shared-slice-read-t18 : tie.Need-shared-slice-read-t18
-shared-slice-read-t18 c = omega (arith, c .before .before .before .before .before .before .before .before .before .before .before .before .before .before .before .pre .long)
+shared-slice-read-t18 c = omega (arith, start (c .before .before) .pre .long)
 
 returns : tie.Need-returns
 returns c =

@@ -44,11 +44,13 @@ vector-of-requires c κs = search needs
 
 returns : tie.Need-returns
 returns c =
-    let a = c .before .before .before .before .before .args in
+    let matrices = c .before .before in
+    let start = matrices .before .before .before in
+    let a = start .args in
     let l = drop (matricesFrom 1 (a .n) (a .m) + a .i * a .n) (now (a .s)) in
-    let e = rw (add-sub-cancel-left, c .before .before .matrices-from .ensures) at (c .vector-of .ensures) in
-    let h : a .n ≤ length l = rw length-drop (omega (arith, room (c .before .before))) in
-    record { used = λ i. vector-front l (a .n) _ h e; idle = λ i. absurd (omega (arith, c .before .before .before .if1 .taken)); held = e .held }
+    let e = rw (add-sub-cancel-left, matrices .matrices-from .ensures) at (c .vector-of .ensures) in
+    let h : a .n ≤ length l = rw length-drop (omega (arith, room matrices)) in
+    record { used = λ i. vector-front l (a .n) _ h e; idle = λ i. absurd (omega (arith, matrices .before .if1 .taken)); held = e .held }
 
 zeros-requires : tie.Need-zeros-requires
 zeros-requires c κs = search needs

@@ -41,7 +41,10 @@ shared-slice-read-t16 : tie.Need-shared-slice-read-t16
 shared-slice-read-t16 c = search needs
 
 returns : tie.Need-returns
-returns c = let start = c .before .before .before .before .before .before .before in stream-in (now (start .args .l)) (start .args .n) _ (start .pre .1) (c .before .before .before .before .vector-of .ensures)
+returns c =
+    let vector = c .before .before .before .before in
+    let start = vector .before .before .before in
+    stream-in (now (start .args .l)) (start .args .n) _ (start .pre .1) (vector .vector-of .ensures)
 
 pub stream-of-spec : {M : Type 1} → statement M
 stream-of-spec = tie.close (tie.spec slice-aggregate-vector-of vector-of-requires shared-slice-read-t7 add-t8 shared-slice-read-t10 add-t11 shared-slice-read-t13 add-t14 shared-slice-read-t16 returns)

@@ -29,12 +29,15 @@ of-fields f g h t = rw (back f, back g, back h) at t
 
 returns : tie.Need-returns
 returns c =
+    let after-within3 = c .before .before .before .before in
+    let after-within2 = after-within3 .before .before .before .before in
+    let after-within = after-within2 .before .before .before .before in
     let l = c .before .before .before .struct-told10 .given in
     let x = c .before .before .struct-told11 .given in
     let u = c .before .struct-told12 .given in
-    told-in _ _ _ _ _ _ (of-fields (in-range (l .0 .1)) (in-range (x .0 .1)) (in-range (u .0 .1)) (c .before .before .before .before .before .before .before .before .before .before .before .before .within .ensures))
-    (told-in _ _ _ _ _ _ (of-fields (in-range (l .1 .0 .1)) (in-range (x .1 .0 .1)) (in-range (u .1 .0 .1)) (c .before .before .before .before .before .before .before .before .within2 .ensures))
-    (told-in _ _ _ _ _ _ (of-fields (in-range (l .1 .1 .0 .1)) (in-range (x .1 .1 .0 .1)) (in-range (u .1 .1 .0 .1)) (c .before .before .before .before .within3 .ensures))
+    told-in _ _ _ _ _ _ (of-fields (in-range (l .0 .1)) (in-range (x .0 .1)) (in-range (u .0 .1)) (after-within .within .ensures))
+    (told-in _ _ _ _ _ _ (of-fields (in-range (l .1 .0 .1)) (in-range (x .1 .0 .1)) (in-range (u .1 .0 .1)) (after-within2 .within2 .ensures))
+    (told-in _ _ _ _ _ _ (of-fields (in-range (l .1 .1 .0 .1)) (in-range (x .1 .1 .0 .1)) (in-range (u .1 .1 .0 .1)) (after-within3 .within3 .ensures))
     (told-last _ _ (of-fields (in-range (l .1 .1 .1 .0 .1)) (in-range (x .1 .1 .1 .0 .1)) (in-range (u .1 .1 .1 .0 .1)) (c .within4 .ensures)))))
 
 pub contains-spec : {M : Type 1} → statement M

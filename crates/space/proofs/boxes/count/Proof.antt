@@ -2,6 +2,7 @@
 use Prim.Native.Nat.{_≤_}
 use native.Mathlib.Nat.{mul-le-mul}
 use borrow.Author.Needs.{needs}
+use Rattle.space.specs.Numbers.{sideLimit}
 use Rattle.space.proofs.Machine.{fits-under}
 use Rattle.space.proofs.Digits.{lengths-small, lengths-count}
 use Rattle.space.proofs.boxes.count.Statement.{statement}
@@ -10,7 +11,7 @@ use Rattle.space.proofs.boxes.count.Tie as tie
 lengths-requires : tie.Need-lengths-requires
 lengths-requires c κs = search needs
 
-small : (c : tie.After-lengths) → (c .lengths .result .n0 ≤ 8189) × (c .lengths .result .n1 ≤ 8189) × (c .lengths .result .n2 ≤ 8189) × (c .lengths .result .n3 ≤ 8189)
+small : (c : tie.After-lengths) → (c .lengths .result .n0 ≤ sideLimit) × (c .lengths .result .n1 ≤ sideLimit) × (c .lengths .result .n2 ≤ sideLimit) × (c .lengths .result .n3 ≤ sideLimit)
 small c = lengths-small (c .lengths .result) (c .before .args .b) (c .lengths .ensures) (c .before .pre .0) (c .before .pre .1)
 
 mul-result : tie.Need-mul-result

@@ -1,5 +1,6 @@
 -- The least of the opposite row, turned.
 use mathlib.Core.Path.{sym, subst}
+use Prim.Native.Nat.{_*_}
 use native.Mathlib.Omega.{arith}
 use borrow.Author.Needs.{needs}
 use lib.IntN.{pos, negsuc, _-ℤ_}
@@ -25,7 +26,7 @@ opposite c = subst (Sized limit) (sym (c .times .ensures)) (times-sized minus-on
 least-requires : tie.Need-least-requires
 least-requires c κs = let p = c .before .pre in (opposite c, p .1, p .2, p .3)
 
-turned : (c : tie.After-least) → Is 1125899772624900 (pos 0 -ℤ c .least .result) (pos 0 -ℤ held (c .least .result))
+turned : (c : tie.After-least) → Is (4 * (limit * limit)) (pos 0 -ℤ c .least .result) (pos 0 -ℤ held (c .least .result))
 turned c =
     let s = c .before .before in
     sub (lit 0 tt) (arg (least-size limit (opposite (c .before)) (sides-sized (s .args .b) (s .pre .1) (s .pre .2)) (c .least .ensures)) tt) tt

@@ -30,24 +30,37 @@ chosen-requires-4 c κs = search needs
 of-fields : {r : ℤ} (h a b : ℤ) → SFits w64 r → SFits w64 h → SFits w64 a → SFits w64 b → r ≡ pick (held h) (held a) (held b) → held r ≡ pick h a b
 of-fields h a b f g k l e = back f ∙ (rw (back g, back k, back l) at e)
 
-are : (c : tie.After-chosen4) → _≡_ {A = List ℤ} (held (c .before .before .before .before .before .before .before .before .before .before .before .before .chosen .result) ∷ held (c .before .before .before .before .before .before .before .before .chosen2 .result) ∷ held (c .before .before .before .before .chosen3 .result) ∷ held (c .chosen4 .result) ∷ []) (cornerOf (entries (c .before .before .before .before .before .before .before .before .before .before .before .before .before .before .before .before .before .before .args .h)) (boxOf (c .before .before .before .before .before .before .before .before .before .before .before .before .before .before .before .before .before .before .args .b)))
+-- moments of the walk: after each choice but the last; where the function starts
+abbrev after-chosen3 : tie.After-chosen4 → tie.After-chosen3
+after-chosen3 c = c .before .before .before .before
+
+abbrev after-chosen2 : tie.After-chosen4 → tie.After-chosen2
+after-chosen2 c = after-chosen3 c .before .before .before .before
+
+abbrev after-chosen : tie.After-chosen4 → tie.After-chosen
+after-chosen c = after-chosen2 c .before .before .before .before
+
+abbrev start : tie.After-chosen4 → tie.Start
+start c = after-chosen c .before .before .before .before .before .before
+
+are : (c : tie.After-chosen4) → _≡_ {A = List ℤ} (held (after-chosen c .chosen .result) ∷ held (after-chosen2 c .chosen2 .result) ∷ held (after-chosen3 c .chosen3 .result) ∷ held (c .chosen4 .result) ∷ []) (cornerOf (entries (start c .args .h)) (boxOf (start c .args .b)))
 unfolding cornerOf
 are c =
-    let s = c .before .before .before .before .before .before .before .before .before .before .before .before .before .before .before .before .before .before .args in
+    let s = start c .args in
     let h = c .before .before .before .struct-told10 .given in
     let l = c .before .before .struct-told11 .given in
     let u = c .before .struct-told12 .given in
     four
-    (of-fields (s .h .x0) (s .b .low .x0) (s .b .high .x0) (in-range (c .before .before .before .before .before .before .before .before .before .before .before .before .chosen .ok)) (in-range (h .0 .1)) (in-range (l .0 .1)) (in-range (u .0 .1)) (c .before .before .before .before .before .before .before .before .before .before .before .before .chosen .ensures))
-    (of-fields (s .h .x1) (s .b .low .x1) (s .b .high .x1) (in-range (c .before .before .before .before .before .before .before .before .chosen2 .ok)) (in-range (h .1 .0 .1)) (in-range (l .1 .0 .1)) (in-range (u .1 .0 .1)) (c .before .before .before .before .before .before .before .before .chosen2 .ensures))
-    (of-fields (s .h .x2) (s .b .low .x2) (s .b .high .x2) (in-range (c .before .before .before .before .chosen3 .ok)) (in-range (h .1 .1 .0 .1)) (in-range (l .1 .1 .0 .1)) (in-range (u .1 .1 .0 .1)) (c .before .before .before .before .chosen3 .ensures))
+    (of-fields (s .h .x0) (s .b .low .x0) (s .b .high .x0) (in-range (after-chosen c .chosen .ok)) (in-range (h .0 .1)) (in-range (l .0 .1)) (in-range (u .0 .1)) (after-chosen c .chosen .ensures))
+    (of-fields (s .h .x1) (s .b .low .x1) (s .b .high .x1) (in-range (after-chosen2 c .chosen2 .ok)) (in-range (h .1 .0 .1)) (in-range (l .1 .0 .1)) (in-range (u .1 .0 .1)) (after-chosen2 c .chosen2 .ensures))
+    (of-fields (s .h .x2) (s .b .low .x2) (s .b .high .x2) (in-range (after-chosen3 c .chosen3 .ok)) (in-range (h .1 .1 .0 .1)) (in-range (l .1 .1 .0 .1)) (in-range (u .1 .1 .0 .1)) (after-chosen3 c .chosen3 .ensures))
     (of-fields (s .h .x3) (s .b .low .x3) (s .b .high .x3) (in-range (c .chosen4 .ok)) (in-range (h .1 .1 .1 .0 .1)) (in-range (l .1 .1 .1 .0 .1)) (in-range (u .1 .1 .1 .0 .1)) (c .chosen4 .ensures))
 
 returns : tie.Need-returns
 returns c =
-    let h = entries (c .before .before .before .before .before .before .before .before .before .before .before .before .before .before .before .before .before .before .args .h) in
-    let B = boxOf (c .before .before .before .before .before .before .before .before .before .before .before .before .before .before .before .before .before .before .args .b) in (
-      subst (In B) (sym (are c)) (least-corner-in h B refl (c .before .before .before .before .before .before .before .before .before .before .before .before .before .before .before .before .before .before .pre)),
+    let h = entries (start c .args .h) in
+    let B = boxOf (start c .args .b) in (
+      subst (In B) (sym (are c)) (least-corner-in h B refl (start c .pre)),
       λ p i. subst (λ (l : List ℤ). dotOf h l ≤ℤ dotOf h p) (sym (are c)) (least-below h B p i),
     )
 

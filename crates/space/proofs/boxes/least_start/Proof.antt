@@ -33,26 +33,41 @@ greater-requires-4 c κs = search needs
 of-fields : {r : ℤ} (a b d : ℤ) → SFits w64 r → SFits w64 a → SFits w64 b → r ≡ greaterOf (held a) (held b) → b ≡ d → held r ≡ greaterOf a d
 of-fields a b d f g h e k = back f ∙ (rw (back g, back h) at e) ∙ ap (greaterOf a) k
 
-are : (c : tie.After-greater4) → _≡_ {A = List ℤ} (held (c .before .before .before .before .before .before .before .before .before .greater .result) ∷ held (c .before .before .before .before .before .before .greater2 .result) ∷ held (c .before .before .before .greater3 .result) ∷ held (c .greater4 .result) ∷ []) (startOf (boxOf (c .before .before .before .before .before .before .before .before .before .before .before .before .before .before .args .b)) (entries (c .before .before .before .before .before .before .before .before .before .before .before .before .before .before .args .y)))
+-- moments of the walk: after each entry but the last; where the function starts
+abbrev after-greater3 : tie.After-greater4 → tie.After-greater3
+after-greater3 c = c .before .before .before
+
+abbrev after-greater2 : tie.After-greater4 → tie.After-greater2
+after-greater2 c = after-greater3 c .before .before .before
+
+abbrev after-greater : tie.After-greater4 → tie.After-greater
+after-greater c = after-greater2 c .before .before .before
+
+abbrev start : tie.After-greater4 → tie.Start
+start c = after-greater c .before .before .before .before .before
+
+are : (c : tie.After-greater4) → _≡_ {A = List ℤ} (held (after-greater c .greater .result) ∷ held (after-greater2 c .greater2 .result) ∷ held (after-greater3 c .greater3 .result) ∷ held (c .greater4 .result) ∷ []) (startOf (boxOf (start c .args .b)) (entries (start c .args .y)))
 unfolding minusOf startOf
 are c =
-    let low = c .before .before .before .before .before .before .before .before .before .before .before .before .before .before .args .b .low in
-    let s = c .before .before .before .before .before .before .before .before .before .before .before .before .minus .result in
+    let after-greater = after-greater c in
+    let after-minus = after-greater .before .before .before in
+    let low = after-minus .before .before .args .b .low in
+    let s = after-minus .minus .result in
     let l = c .before .before .struct-told7 .given in
     let m = c .before .struct-told8 .given in
-    let e = unfour (c .before .before .before .before .before .before .before .before .before .before .before .before .minus .ensures) in
+    let e = unfour (after-minus .minus .ensures) in
     four
-    (of-fields (low .x0) (s .x0) _ (in-range (c .before .before .before .before .before .before .before .before .before .greater .ok)) (in-range (l .0 .1)) (in-range (m .0 .1)) (c .before .before .before .before .before .before .before .before .before .greater .ensures) (e .0))
-    (of-fields (low .x1) (s .x1) _ (in-range (c .before .before .before .before .before .before .greater2 .ok)) (in-range (l .1 .0 .1)) (in-range (m .1 .0 .1)) (c .before .before .before .before .before .before .greater2 .ensures) (e .1))
-    (of-fields (low .x2) (s .x2) _ (in-range (c .before .before .before .greater3 .ok)) (in-range (l .1 .1 .0 .1)) (in-range (m .1 .1 .0 .1)) (c .before .before .before .greater3 .ensures) (e .2))
+    (of-fields (low .x0) (s .x0) _ (in-range (after-greater .greater .ok)) (in-range (l .0 .1)) (in-range (m .0 .1)) (after-greater .greater .ensures) (e .0))
+    (of-fields (low .x1) (s .x1) _ (in-range (after-greater2 c .greater2 .ok)) (in-range (l .1 .0 .1)) (in-range (m .1 .0 .1)) (after-greater2 c .greater2 .ensures) (e .1))
+    (of-fields (low .x2) (s .x2) _ (in-range (after-greater3 c .greater3 .ok)) (in-range (l .1 .1 .0 .1)) (in-range (m .1 .1 .0 .1)) (after-greater3 c .greater3 .ensures) (e .2))
     (of-fields (low .x3) (s .x3) _ (in-range (c .greater4 .ok)) (in-range (l .1 .1 .1 .0 .1)) (in-range (m .1 .1 .1 .0 .1)) (c .greater4 .ensures) (e .3))
 
 returns : tie.Need-returns
 returns c =
-    let B = boxOf (c .before .before .before .before .before .before .before .before .before .before .before .before .before .before .args .b) in
-    let y = entries (c .before .before .before .before .before .before .before .before .before .before .before .before .before .before .args .y) in
+    let B = boxOf (start c .args .b) in
+    let y = entries (start c .args .y) in
     let e = sym (are c) in
-    let i = start-in B y (apart-in B y (c .before .before .before .before .before .before .before .before .before .before .before .before .before .before .pre .3)) in (
+    let i = start-in B y (apart-in B y (start c .pre .3)) in (
       (subst (In B) e (i .0), subst (λ (l : List ℤ). In B (plusOf l y)) e (i .1)),
       λ p h t. subst (λ (l : List ℤ). AtMost l p) e (start-least B y p h t),
     )

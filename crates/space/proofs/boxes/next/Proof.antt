@@ -69,58 +69,83 @@ module _ (s : tie.Start) where
   follows : {q r : List ℤ} → r ≡ q → Next (boxOf (s .args .b)) (entries (s .args .p)) q → (k : ℕ) → entries (s .args .p) ≡ pointOf (boxOf (s .args .b)) k → k + 1 < countOf (boxOf (s .args .b)) → r ≡ pointOf (boxOf (s .args .b)) (k + 1)
   follows {q} e n k i h = e ∙ next-point (boxOf (s .args .b)) (entries (s .args .p)) q k n i (omega arith)
 
+-- moments of the walk: where the function starts, from each test; where the last entry, and the one before it, is at its high bound
+abbrev start : tie.After-struct-told2 → tie.Start
+start c = c .before .before .before .before .before .before
+
+abbrev else1 : tie.After-struct-told6 → tie.Else1
+else1 c = c .before .before .before .before
+
+abbrev start2 : tie.After-struct-told6 → tie.Start
+start2 c = start (else1 c .before)
+
+abbrev else2 : tie.After-struct-told11 → tie.Else2
+else2 c = c .before .before .before .before
+
+abbrev start3 : tie.After-struct-told11 → tie.Start
+start3 c = start2 (else2 c .before)
+
 add-t6 : tie.Need-add-t6
-add-t6 c = fit (more (sized (c .before .before .before .before .before .before .before .before .before) .each .1 .1 .1 .0))
+add-t6 c = fit (more (sized (start (c .before .before .before)) .each .1 .1 .1 .0))
 
 returns : tie.Need-returns
 returns c =
-    let s = c .before .before .before .before .before .before .before .before .before .before in
+    let then1 = c .before .before .before in
+    let s = start (then1 .before) in
     let z = sized s .each in
-    let h = below (z .1 .1 .1 .0) (s .pre .1 .each .1 .1 .1 .0) (c .before .before .before .if1 .taken) in
+    let h = below (z .1 .1 .1 .0) (s .pre .1 .each .1 .1 .1 .0) (then1 .if1 .taken) in
     follows s (four (as-held tt (z .0)) (as-held tt (z .1 .0)) (as-held tt (z .1 .1 .0)) (read (more (z .1 .1 .1 .0))))
     (next-behind _ _ _ _ _ (s .pre .2) (next-behind _ _ _ _ _ (in1 s) (next-behind _ _ _ _ _ (in2 s) (next-first _ [] _ [] (in3 s) last-nothing h))))
 
 add-t7 : tie.Need-add-t7
-add-t7 c = fit (more (sized (c .before .before .before .before .before .before .before .before .before .before .before .before .before .before) .each .1 .1 .0))
+add-t7 c = fit (more (sized (start2 (c .before .before .before)) .each .1 .1 .0))
 
 returns-2 : tie.Need-returns-2
 returns-2 c =
-    let s = c .before .before .before .before .before .before .before .before .before .before .before .before .before .before .before .before in
+    let then2 = c .before .before .before .before in
+    let else1 = else1 (then2 .before) in
+    let s = start (else1 .before) in
     let z = sized s .each in
     let l = s .pre .0 .each in
     let u = s .pre .1 .each in
-    let h3 = at-high (z .1 .1 .1 .0) (u .1 .1 .1 .0) (c .before .before .before .before .before .before .before .before .before .if1 .left) in
-    let h2 = below (z .1 .1 .0) (u .1 .1 .0) (c .before .before .before .before .if2 .taken) in
+    let h3 = at-high (z .1 .1 .1 .0) (u .1 .1 .1 .0) (else1 .if1 .left) in
+    let h2 = below (z .1 .1 .0) (u .1 .1 .0) (then2 .if2 .taken) in
     follows s (four (as-held tt (z .0)) (as-held tt (z .1 .0)) (read (more (z .1 .1 .0))) (as-held tt (l .1 .1 .1 .0)))
     (next-behind _ _ _ _ _ (s .pre .2) (next-behind _ _ _ _ _ (in1 s) (next-first _ _ _ _ (in2 s) (last3 s h3) h2)))
 
 add-t8 : tie.Need-add-t8
-add-t8 c = fit (more (sized (c .before .before .before .before .before .before .before .before .before .before .before .before .before .before .before .before .before .before .before) .each .1 .0))
+add-t8 c = fit (more (sized (start3 (c .before .before .before)) .each .1 .0))
 
 returns-3 : tie.Need-returns-3
 returns-3 c =
-    let s = c .before .before .before .before .before .before .before .before .before .before .before .before .before .before .before .before .before .before .before .before .before in
+    let then3 = c .before .before .before .before in
+    let else2 = else2 (then3 .before) in
+    let else1 = else1 (else2 .before) in
+    let s = start (else1 .before) in
     let z = sized s .each in
     let l = s .pre .0 .each in
     let u = s .pre .1 .each in
-    let h3 = at-high (z .1 .1 .1 .0) (u .1 .1 .1 .0) (c .before .before .before .before .before .before .before .before .before .before .before .before .before .before .if1 .left) in
-    let h2 = at-high (z .1 .1 .0) (u .1 .1 .0) (c .before .before .before .before .before .before .before .before .before .if2 .left) in
-    let h1 = below (z .1 .0) (u .1 .0) (c .before .before .before .before .if3 .taken) in
+    let h3 = at-high (z .1 .1 .1 .0) (u .1 .1 .1 .0) (else1 .if1 .left) in
+    let h2 = at-high (z .1 .1 .0) (u .1 .1 .0) (else2 .if2 .left) in
+    let h1 = below (z .1 .0) (u .1 .0) (then3 .if3 .taken) in
     follows s (four (as-held tt (z .0)) (read (more (z .1 .0))) (as-held tt (l .1 .1 .0)) (as-held tt (l .1 .1 .1 .0)))
     (next-behind _ _ _ _ _ (s .pre .2) (next-first _ _ _ _ (in1 s) (last2 s h2 h3) h1))
 
 add-t9 : tie.Need-add-t9
-add-t9 c = fit (more (sized (c .before .before .before .before .before .before .before .before .before .before .before .before .before .before .before .before .before .before .before) .each .0))
+add-t9 c = fit (more (sized (start3 (c .before .before .before)) .each .0))
 
 returns-4 : tie.Need-returns-4
 returns-4 c k i t =
-    let s = c .before .before .before .before .before .before .before .before .before .before .before .before .before .before .before .before .before .before .before .before in
+    let else3 = c .before .before .before in
+    let else2 = else2 (else3 .before) in
+    let else1 = else1 (else2 .before) in
+    let s = start (else1 .before) in
     let z = sized s .each in
     let l = s .pre .0 .each in
     let u = s .pre .1 .each in
-    let h3 = at-high (z .1 .1 .1 .0) (u .1 .1 .1 .0) (c .before .before .before .before .before .before .before .before .before .before .before .before .before .if1 .left) in
-    let h2 = at-high (z .1 .1 .0) (u .1 .1 .0) (c .before .before .before .before .before .before .before .before .if2 .left) in
-    let h1 = at-high (z .1 .0) (u .1 .0) (c .before .before .before .if3 .left) in
+    let h3 = at-high (z .1 .1 .1 .0) (u .1 .1 .1 .0) (else1 .if1 .left) in
+    let h2 = at-high (z .1 .1 .0) (u .1 .1 .0) (else2 .if2 .left) in
+    let h1 = at-high (z .1 .0) (u .1 .0) (else3 .if3 .left) in
     follows s (four (read (more (z .0))) (as-held tt (l .1 .0)) (as-held tt (l .1 .1 .0)) (as-held tt (l .1 .1 .1 .0)))
     (next-first _ _ _ _ (s .pre .2) (last1 s h1 h2 h3) (first-below s k (last1 s h1 h2 h3) i t)) k i t
 

@@ -5,7 +5,7 @@ use Prim.Native.Nat.{ℕ, _≤_, _<_}
 use native.Mathlib.Nat.{mul-le-mul}
 use native.Mathlib.Omega.{arith}
 use lib.IntN.{ℤ, pos}
-use Rattle.space.specs.Numbers.{Size}
+use Rattle.space.specs.Numbers.{Size, sideLimit}
 use Rattle.space.specs.Vectors.{entries, plusOf, Sized}
 use Rattle.space.specs.Boxes.{boxOf, pointOf}
 use Rattle.space.proofs.Machine.{arg, fit, as-held, fits-under}
@@ -18,19 +18,19 @@ module _ (s : tie.Start) where
   are : Digits (s .args .k) (s .args .n .n0) (s .args .n .n1) (s .args .n .n2) (s .args .n .n3)
   are = digits (s .args .k) (s .args .n .n0) (s .args .n .n1) (s .args .n .n2) (s .args .n .n3) (s .pre .4)
 
-  few : {d n : ℕ} → d < n → n ≤ 8189 → Size 8189 (pos d)
+  few : {d n : ℕ} → d < n → n ≤ sideLimit → Size sideLimit (pos d)
   few h k = record { size = omega arith }
 
-  few0 : Size 8189 (pos (digit0 (s .args .k) (s .args .n .n1) (s .args .n .n2) (s .args .n .n3)))
+  few0 : Size sideLimit (pos (digit0 (s .args .k) (s .args .n .n1) (s .args .n .n2) (s .args .n .n3)))
   few0 = few (are .below0) (s .pre .0)
 
-  few1 : Size 8189 (pos (digit1 (s .args .k) (s .args .n .n1) (s .args .n .n2) (s .args .n .n3)))
+  few1 : Size sideLimit (pos (digit1 (s .args .k) (s .args .n .n1) (s .args .n .n2) (s .args .n .n3)))
   few1 = few (are .below1) (s .pre .1)
 
-  few2 : Size 8189 (pos (digit2 (s .args .k) (s .args .n .n1) (s .args .n .n2) (s .args .n .n3)))
+  few2 : Size sideLimit (pos (digit2 (s .args .k) (s .args .n .n1) (s .args .n .n2) (s .args .n .n3)))
   few2 = few (are .below2) (s .pre .2)
 
-  few3 : Size 8189 (pos (digit3 (s .args .k) (s .args .n .n1) (s .args .n .n2) (s .args .n .n3)))
+  few3 : Size sideLimit (pos (digit3 (s .args .k) (s .args .n .n1) (s .args .n .n2) (s .args .n .n3)))
   few3 = few (are .below3) (s .pre .3)
 
 mul-behind-1 : tie.Need-mul-behind-1
@@ -73,7 +73,7 @@ returns : tie.Need-returns
 returns c =
     let s = c .before .before .before .before in
     let are-digits = four (as-held tt (few0 s)) (as-held tt (few1 s)) (as-held tt (few2 s)) (as-held tt (few3 s)) in (
-      subst (Sized 8189) (sym are-digits) (record { each = (few0 s, (few1 s, (few2 s, (few3 s, tt)))) }),
+      subst (Sized sideLimit) (sym are-digits) (record { each = (few0 s, (few1 s, (few2 s, (few3 s, tt)))) }),
       λ b e. subst (λ (l : List ℤ). plusOf (entries (b .low)) l ≡ pointOf (boxOf b) (s .args .k)) (sym are-digits) (digits-point (s .args .n) b e (s .args .k)),
     )
 

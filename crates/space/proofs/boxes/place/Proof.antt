@@ -6,7 +6,7 @@ use native.Mathlib.Omega.{arith}
 use borrow.Author.Needs.{needs}
 use mir.Syntax.{w64}
 use mir.Val.{Fits}
-use Rattle.space.specs.Numbers.{difference}
+use Rattle.space.specs.Numbers.{difference, sideLimit}
 use Rattle.space.specs.Vectors.{entries, Sized}
 use Rattle.space.specs.Boxes.{countOf, placeOf}
 use Rattle.space.proofs.Machine.{fits-under}
@@ -26,11 +26,15 @@ lengths-requires c κs = search needs
 steps-each-requires : tie.Need-steps-each-requires
 steps-each-requires c κs = (sized-up (omega arith) (c .before .before .pre .0), sized-up (omega arith) (sized (c .before .before)))
 
+-- the most steps along a side
+abbrev far : ℕ
+far = difference + difference
+
 -- the lengths and the steps are small
-small-lengths : (c : tie.After-steps-each) → (c .before .before .lengths .result .n0 ≤ 8189) × (c .before .before .lengths .result .n1 ≤ 8189) × (c .before .before .lengths .result .n2 ≤ 8189) × (c .before .before .lengths .result .n3 ≤ 8189)
+small-lengths : (c : tie.After-steps-each) → (c .before .before .lengths .result .n0 ≤ sideLimit) × (c .before .before .lengths .result .n1 ≤ sideLimit) × (c .before .before .lengths .result .n2 ≤ sideLimit) × (c .before .before .lengths .result .n3 ≤ sideLimit)
 small-lengths c = let s = c .before .before .before in lengths-small (c .before .before .lengths .result) (s .args .b) (c .before .before .lengths .ensures) (s .pre .0) (s .pre .1)
 
-small-steps : (c : tie.After-steps-each) → (c .steps-each .result .n0 ≤ 8188) × (c .steps-each .result .n1 ≤ 8188) × (c .steps-each .result .n2 ≤ 8188) × (c .steps-each .result .n3 ≤ 8188)
+small-steps : (c : tie.After-steps-each) → (c .steps-each .result .n0 ≤ far) × (c .steps-each .result .n1 ≤ far) × (c .steps-each .result .n2 ≤ far) × (c .steps-each .result .n3 ≤ far)
 unfolding zipWith
 small-steps c =
     let s = c .before .before .before in
@@ -44,25 +48,25 @@ small-steps c =
     )
 
 -- the sums from the first digit to the last fit, whichever of the steps and lengths are in them
-digit : {m a n o : ℕ} → a ≤ m → n ≤ 8189 → o ≤ 8188 → a * n + o ≤ m * 8189 + 8188
+digit : {m a n o : ℕ} → a ≤ m → n ≤ sideLimit → o ≤ far → a * n + o ≤ m * sideLimit + far
 digit h k l = add-le-add (mul-le-mul h k) l
 
-fits1 : {a n : ℕ} → a ≤ 8188 → n ≤ 8189 → Fits w64 (a * n)
+fits1 : {a n : ℕ} → a ≤ far → n ≤ sideLimit → Fits w64 (a * n)
 fits1 h k = fits-under (mul-le-mul h k) tt
 
-fits2 : {a n o : ℕ} → a ≤ 8188 → n ≤ 8189 → o ≤ 8188 → Fits w64 (a * n + o)
+fits2 : {a n o : ℕ} → a ≤ far → n ≤ sideLimit → o ≤ far → Fits w64 (a * n + o)
 fits2 h k l = fits-under (digit h k l) tt
 
-fits3 : {a n o p : ℕ} → a ≤ 8188 → n ≤ 8189 → o ≤ 8188 → p ≤ 8189 → Fits w64 ((a * n + o) * p)
+fits3 : {a n o p : ℕ} → a ≤ far → n ≤ sideLimit → o ≤ far → p ≤ sideLimit → Fits w64 ((a * n + o) * p)
 fits3 h k l m = fits-under (mul-le-mul (digit h k l) m) tt
 
-fits4 : {a n o p q : ℕ} → a ≤ 8188 → n ≤ 8189 → o ≤ 8188 → p ≤ 8189 → q ≤ 8188 → Fits w64 ((a * n + o) * p + q)
+fits4 : {a n o p q : ℕ} → a ≤ far → n ≤ sideLimit → o ≤ far → p ≤ sideLimit → q ≤ far → Fits w64 ((a * n + o) * p + q)
 fits4 h k l m i = fits-under (digit (digit h k l) m i) tt
 
-fits5 : {a n o p q r : ℕ} → a ≤ 8188 → n ≤ 8189 → o ≤ 8188 → p ≤ 8189 → q ≤ 8188 → r ≤ 8189 → Fits w64 (((a * n + o) * p + q) * r)
+fits5 : {a n o p q r : ℕ} → a ≤ far → n ≤ sideLimit → o ≤ far → p ≤ sideLimit → q ≤ far → r ≤ sideLimit → Fits w64 (((a * n + o) * p + q) * r)
 fits5 h k l m i j = fits-under (mul-le-mul (digit (digit h k l) m i) j) tt
 
-fits6 : {a n o p q r t : ℕ} → a ≤ 8188 → n ≤ 8189 → o ≤ 8188 → p ≤ 8189 → q ≤ 8188 → r ≤ 8189 → t ≤ 8188 → Fits w64 (((a * n + o) * p + q) * r + t)
+fits6 : {a n o p q r t : ℕ} → a ≤ far → n ≤ sideLimit → o ≤ far → p ≤ sideLimit → q ≤ far → r ≤ sideLimit → t ≤ far → Fits w64 (((a * n + o) * p + q) * r + t)
 fits6 h k l m i j g = fits-under (digit (digit (digit h k l) m i) j g) tt
 
 mul-result : tie.Need-mul-result
@@ -74,20 +78,27 @@ add-result c = search (fits2, small-steps (c .before .before .before), small-len
 mul-result-2 : tie.Need-mul-result-2
 mul-result-2 c = search (fits3, small-steps (c .before .before .before .before), small-lengths (c .before .before .before .before))
 
+-- where the steps are known
+abbrev after-steps-each : tie.After-struct-known5 → tie.After-steps-each
+after-steps-each c = c .before .before .before .before .before
+
 add-result-2 : tie.Need-add-result-2
-add-result-2 c = search (fits4, small-steps (c .before .before .before .before .before), small-lengths (c .before .before .before .before .before))
+add-result-2 c = search (fits4, small-steps (after-steps-each c), small-lengths (after-steps-each c))
 
 mul-result-3 : tie.Need-mul-result-3
-mul-result-3 c = search (fits5, small-steps (c .before .before .before .before .before .before), small-lengths (c .before .before .before .before .before .before))
+mul-result-3 c = search (fits5, small-steps (after-steps-each (c .before)), small-lengths (after-steps-each (c .before)))
 
 add-result-3 : tie.Need-add-result-3
-add-result-3 c = search (fits6, small-steps (c .before .before .before .before .before .before .before), small-lengths (c .before .before .before .before .before .before .before))
+add-result-3 c =
+    let after-steps-each = after-steps-each (c .before .before) in
+    search (fits6, small-steps after-steps-each, small-lengths after-steps-each)
 
 returns : tie.Need-returns
 unfolding zipWith countOf placeOf
 returns c =
-    let o = unfour (c .before .before .before .before .before .before .before .steps-each .ensures) in
-    let n = unfour (c .before .before .before .before .before .before .before .before .before .lengths .ensures) in
+    let after-steps-each = after-steps-each (c .before .before) in
+    let o = unfour (after-steps-each .steps-each .ensures) in
+    let n = unfour (after-steps-each .before .before .lengths .ensures) in
     rw (← o .0, ← o .1, ← o .2, ← o .3, ← n .1, ← n .2, ← n .3) (omega arith)
 
 pub place-spec : {M : Type 1} → statement M

@@ -1,12 +1,14 @@
 -- Where x is not below l, x - l fits and is not negative.
 use mathlib.Core.Path.{ap, _∙_}
+use Prim.Native.Nat.{_+_}
 use lib.IntN.{natAbs, _-ℤ_}
+use Rattle.space.specs.Numbers.{limit}
 use Rattle.space.proofs.Parts.{difference, magnitude}
 use Rattle.space.proofs.Machine.{Is, held, arg, sub, fit, read, cast-need, tests}
 use Rattle.space.proofs.boxes.steps_above.Statement.{statement}
 use Rattle.space.proofs.boxes.steps_above.Tie as tie
 
-gap : (c : tie.Else1) → Is 33554430 (c .before .args .x -ℤ c .before .args .l) (held (c .before .args .x) -ℤ held (c .before .args .l))
+gap : (c : tie.Else1) → Is (limit + limit) (c .before .args .x -ℤ c .before .args .l) (held (c .before .args .x) -ℤ held (c .before .args .l))
 gap c = sub (arg (c .before .pre .1) tt) (arg (c .before .pre .0) tt) tt
 
 sub-result : tie.Need-sub-result

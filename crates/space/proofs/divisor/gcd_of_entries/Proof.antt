@@ -29,14 +29,18 @@ gcd-requires-3 c κs = search needs
 
 returns : tie.Need-returns
 returns c =
-    let a = c .before .before .before .before .before .before .before .before .before .before .before .args .v in
+    let after-gcd2 = c .before .before .before in
+    let after-gcd = after-gcd2 .before .before .before in
+    let after-size2 = after-gcd .before in
+    let after-size = after-size2 .before .before in
+    let a = after-size .before .before .args .v in
     let v = c .before .before .struct-told4 .given in
     let e0 = size-read {z = a .x0} refl (in-range (v .0 .1)) (c .before .size4 .ensures) in
-    let e1 = size-read {z = a .x1} refl (in-range (v .1 .0 .1)) (c .before .before .before .before .size3 .ensures) in
-    let e2 = size-read {z = a .x2} refl (in-range (v .1 .1 .0 .1)) (c .before .before .before .before .before .before .before .before .before .size .ensures) in
-    let e3 = size-read {z = a .x3} refl (in-range (v .1 .1 .1 .0 .1)) (c .before .before .before .before .before .before .before .size2 .ensures) in
-    let g2 = rw (e2, e3) at (c .before .before .before .before .before .before .gcd .ensures) in
-    let g1 = gcd-more g2 (rw e1 at (c .before .before .before .gcd2 .ensures)) in
+    let e1 = size-read {z = a .x1} refl (in-range (v .1 .0 .1)) (after-gcd2 .before .size3 .ensures) in
+    let e2 = size-read {z = a .x2} refl (in-range (v .1 .1 .0 .1)) (after-size .size .ensures) in
+    let e3 = size-read {z = a .x3} refl (in-range (v .1 .1 .1 .0 .1)) (after-size2 .size2 .ensures) in
+    let g2 = rw (e2, e3) at (after-gcd .gcd .ensures) in
+    let g1 = gcd-more g2 (rw e1 at (after-gcd2 .gcd2 .ensures)) in
     gcd-more g1 (rw e0 at (c .gcd3 .ensures))
 
 pub gcd-of-entries-spec : {M : Type 1} → statement M

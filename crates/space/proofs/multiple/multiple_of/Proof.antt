@@ -22,21 +22,27 @@ none p e = zero-bits (fit (arg p tt)) e
 quotient-tried-requires : tie.Need-quotient-tried-requires
 unfolding timesOf
 quotient-tried-requires c κs =
-    let s = c .before .before .before .before .before in
+    let then1 = c .before .before in
+    let s = then1 .before .before .before in
     let p = s .pre in
     ask (entries (s .args .y)) (entries (s .args .d)) (p .0) (p .1) (p .0 .each .0) (p .1 .each .0)
-    (λ e. c .before .before .if1 .taken (ap (ofZ w64) e)) (λ z e. same-entry 0 e)
+    (λ e. then1 .if1 .taken (ap (ofZ w64) e)) (λ z e. same-entry 0 e)
 
 returns : tie.Need-returns
 returns c = search needs
 
+-- where the function starts
+abbrev start : tie.After-struct-told4 → tie.Start
+start c = c .before .before .before .before .before
+
 quotient-tried-requires-2 : tie.Need-quotient-tried-requires-2
 unfolding timesOf
 quotient-tried-requires-2 c κs =
-    let s = c .before .before .before .before .before .before .before .before in
+    let then2 = c .before .before in
+    let s = start (then2 .before) in
     let p = s .pre in
     ask (entries (s .args .y)) (entries (s .args .d)) (p .0) (p .1) (p .0 .each .1 .0) (p .1 .each .1 .0)
-    (λ e. c .before .before .if2 .taken (ap (ofZ w64) e)) (λ z e. same-entry 1 e)
+    (λ e. then2 .if2 .taken (ap (ofZ w64) e)) (λ z e. same-entry 1 e)
 
 returns-2 : tie.Need-returns-2
 returns-2 c = search needs
@@ -44,10 +50,11 @@ returns-2 c = search needs
 quotient-tried-requires-3 : tie.Need-quotient-tried-requires-3
 unfolding timesOf
 quotient-tried-requires-3 c κs =
-    let s = c .before .before .before .before .before .before .before .before .before .before .before in
+    let then3 = c .before .before in
+    let s = start (then3 .before .before .before .before) in
     let p = s .pre in
     ask (entries (s .args .y)) (entries (s .args .d)) (p .0) (p .1) (p .0 .each .1 .1 .0) (p .1 .each .1 .1 .0)
-    (λ e. c .before .before .if3 .taken (ap (ofZ w64) e)) (λ z e. same-entry 2 e)
+    (λ e. then3 .if3 .taken (ap (ofZ w64) e)) (λ z e. same-entry 2 e)
 
 returns-3 : tie.Need-returns-3
 returns-3 c = search needs
@@ -55,11 +62,14 @@ returns-3 c = search needs
 quotient-tried-requires-4 : tie.Need-quotient-tried-requires-4
 unfolding timesOf
 quotient-tried-requires-4 c κs =
-    let s = c .before .before .before .before .before .before .before .before .before .before .before in
+    let else3 = c .before .before in
+    let else2 = else3 .before .before .before in
+    let else1 = else2 .before .before .before in
+    let s = else1 .before .before .before in
     let p = s .pre in
     let d = p .1 .each in
     ask (entries (s .args .y)) (entries (s .args .d)) (p .0) (p .1) (p .0 .each .1 .1 .1 .0) (d .1 .1 .1 .0)
-    (last-nonzero (none (d .0) (c .before .before .before .before .before .before .before .before .if1 .left)) (none (d .1 .0) (c .before .before .before .before .before .if2 .left)) (none (d .1 .1 .0) (c .before .before .if3 .left)) (p .2))
+    (last-nonzero (none (d .0) (else1 .if1 .left)) (none (d .1 .0) (else2 .if2 .left)) (none (d .1 .1 .0) (else3 .if3 .left)) (p .2))
     (λ z e. same-entry 3 e)
 
 returns-4 : tie.Need-returns-4
