@@ -70,16 +70,10 @@ pub fn in_numbers(l: Lookup) -> Looked
 fn nothing(number: u8) -> Looked
     ensures { λ r. ⌜ r ≡ unfound number ⌝ }
 {
-    let point = Vector {
-        x0: 0,
-        x1: 0,
-        x2: 0,
-        x3: 0,
-    };
     Looked {
         number,
         found: 0,
-        point,
+        point: space::ZERO,
     }
 }
 

@@ -6,7 +6,6 @@ use space::boxes::Bounds;
 ghost use mathlib.Core.Path.{_≡_};
 ghost use Prim.Native.Nat.{ℕ, _+_, _*_, _≤_};
 ghost use lib.ListN.{length};
-ghost use Rattle.job.specs.Record.{zeroVector};
 ghost use Rattle.layout.specs.Layout.{matricesFrom, totalOf, Lays};
 ghost use Rattle.reader.specs.Pieces.{part, Headed, EntryAt, EntriesAt, VectorIn, BoxIn, StreamIn, StreamAt, RowAt};
 
@@ -60,9 +59,8 @@ fn stream_or(s: &[u8], n: usize, m: usize, i: usize) -> Stream
         let end = from + (n + 4);
         return stream_of(&s[from..end], n);
     }
-    let d = zeros();
     Stream {
-        d: d,
+        d: space::ZERO,
         kind: 0,
         rule: 0,
         a: 0,
@@ -80,19 +78,7 @@ fn row_or(s: &[u8], n: usize, k: usize, m: usize, i: usize) -> Vector
         let end = from + n;
         return vector_of(&s[from..end]);
     }
-    zeros()
-}
-
-// A vector that is not used.
-fn zeros() -> Vector
-    ensures { λ r. ⌜ r ≡ zeroVector ⌝ }
-{
-    Vector {
-        x0: 0,
-        x1: 0,
-        x2: 0,
-        x3: 0,
-    }
+    space::ZERO
 }
 
 // A stream: d, kind, rule, a, b.

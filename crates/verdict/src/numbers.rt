@@ -2,7 +2,6 @@
 use crate::Extent;
 use crate::Pair;
 use crate::Verdict;
-use space::Vector;
 ghost use mathlib.Core.Path.{_≡_};
 ghost use Rattle.verdict.specs.Verdicts.{inNumbers};
 
@@ -19,16 +18,13 @@ pub struct InNumbers {
 pub fn in_numbers(v: Verdict) -> InNumbers
     ensures { λ r. ⌜ r ≡ inNumbers v ⌝ }
 {
-    let zero = Vector {
-        x0: 0,
-        x1: 0,
-        x2: 0,
-        x3: 0,
-    };
     let none = InNumbers {
         number: 0,
         stream: 0,
-        pair: Pair { p: zero, q: zero },
+        pair: Pair {
+            p: space::ZERO,
+            q: space::ZERO,
+        },
         hops: 0,
         extent: Extent {
             cells: 0,

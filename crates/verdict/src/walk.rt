@@ -95,13 +95,7 @@ fn first_place(b: Bounds) -> u64
     requires { ⌜ Sized difference (entries (b .low)) × Sized difference (entries (b .high)) × In (boxOf b) (entries zeroVector) ⌝ }
     ensures { λ r. ⌜ r ≡ placeOf (boxOf b) (entries zeroVector) + 1 ⌝ }
 {
-    let zero = Vector {
-        x0: 0,
-        x1: 0,
-        x2: 0,
-        x3: 0,
-    };
-    space::boxes::place(b, zero) + 1
+    space::boxes::place(b, space::ZERO) + 1
 }
 
 // That difference itself, where there is one.
@@ -109,13 +103,7 @@ fn first_gap(b: Bounds) -> Vector
     requires { ⌜ Sized difference (entries (b .low)) × Sized difference (entries (b .high)) × In (boxOf b) (entries zeroVector) ⌝ }
     ensures { λ r. ⌜ PointAt (boxOf b) (placeOf (boxOf b) (entries zeroVector) + 1) (entries r) ⌝ }
 {
-    let zero = Vector {
-        x0: 0,
-        x1: 0,
-        x2: 0,
-        x3: 0,
-    };
-    space::boxes::next(b, zero)
+    space::boxes::next(b, space::ZERO)
 }
 
 // The first difference at which two points of the box share cell and tick.

@@ -1,4 +1,5 @@
 -- Row i is the part at its place, and within the bytes.
+use mathlib.Core.Path.{refl}
 use Prim.Native.Nat.{_+_, _*_, _≤_}
 use native.Mathlib.Nat.{add-sub-cancel-left}
 use native.Mathlib.Omega.{arith}
@@ -52,11 +53,8 @@ returns c =
     let h : a .n ≤ length l = rw length-drop (omega (arith, room matrices)) in
     record { used = λ i. vector-front l (a .n) _ h e; idle = λ i. absurd (omega (arith, matrices .before .if1 .taken)); held = e .held }
 
-zeros-requires : tie.Need-zeros-requires
-zeros-requires c κs = search needs
-
 returns-2 : tie.Need-returns-2
-returns-2 c = record { used = λ h. absurd (omega (arith, c .before .if1 .left)); idle = λ h. rw (c .zeros .ensures); held = rw (c .zeros .ensures) zeros-held }
+returns-2 c = record { used = λ h. absurd (omega (arith, c .if1 .left)); idle = λ h. refl; held = zeros-held }
 
 pub row-or-spec : {M : Type 1} → statement M
-row-or-spec = tie.close (tie.spec matrices-from-requires mul-from add-from add-end sub-vector-of part-vector-of-start part-vector-of-end vector-of-requires returns zeros-requires returns-2)
+row-or-spec = tie.close (tie.spec matrices-from-requires mul-from add-from add-end sub-vector-of part-vector-of-start part-vector-of-end vector-of-requires returns returns-2)

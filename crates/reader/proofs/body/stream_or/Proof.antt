@@ -1,4 +1,5 @@
 -- Stream i is the part at its place, and within the bytes.
+use mathlib.Core.Path.{refl}
 use Prim.Native.Nat.{_+_, _*_, _≤_}
 use native.Mathlib.Nat.{add-sub-cancel-left}
 use native.Mathlib.Omega.{arith}
@@ -48,11 +49,8 @@ returns c =
     let e = rw (add-sub-cancel-left, c .before .before .streams-from .ensures) at (c .stream-of .ensures) in
     record { used = λ h. e; idle = λ h. absurd (omega (arith, c .before .before .before .if1 .taken)); held = e .held }
 
-zeros-requires : tie.Need-zeros-requires
-zeros-requires c κs = search needs
-
 returns-2 : tie.Need-returns-2
-returns-2 c = record { used = λ h. absurd (omega (arith, c .before .if1 .left)); idle = λ h. rw (c .zeros .ensures); held = rw (c .zeros .ensures) zeros-held }
+returns-2 c = record { used = λ h. absurd (omega (arith, c .if1 .left)); idle = λ h. refl; held = zeros-held }
 
 pub stream-or-spec : {M : Type 1} → statement M
-stream-or-spec = tie.close (tie.spec streams-from-requires add-from mul-from add-from-2 add-end add-end-2 sub-stream-of part-stream-of-start part-stream-of-end stream-of-requires returns zeros-requires returns-2)
+stream-or-spec = tie.close (tie.spec streams-from-requires add-from mul-from add-from-2 add-end add-end-2 sub-stream-of part-stream-of-start part-stream-of-end stream-of-requires returns returns-2)
