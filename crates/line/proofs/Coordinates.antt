@@ -11,11 +11,11 @@ use mir.Val.{SFits}
 use Rattle.space.specs.Vectors.{entries}
 use Rattle.space.specs.declared.Vector.{Vector}
 use Rattle.space.proofs.Machine.{held}
-use Rattle.print.specs.Put.{Fits, Put}
+use Rattle.buffer.specs.Put.{Fits, Put}
 use Rattle.line.specs.Fields.{Field, field, fieldsBytes, coordinates}
 use Rattle.print.specs.declared.words.Word.{Word}
 use Rattle.print.specs.declared.words.Word.the-variants as Word
-use Rattle.print.proofs.Putting.{put-as, fits-as}
+use Rattle.buffer.proofs.Putting.{put-as, fits-as}
 use Rattle.line.proofs.Rows.{room-first, room-rest, put-rest, room-held, put-held}
 
 -- coordinate k, where n are shown

@@ -10,14 +10,14 @@ use Rattle.space.specs.declared.Vector.{Vector}
 use Rattle.verdict.specs.declared.Pair.{Pair}
 use Rattle.verdict.specs.declared.Verdict.{Verdict}
 use Rattle.verdict.specs.declared.Verdict.the-variants.{Accepted, Limit, Precedence, Hop, Cell, Link}
-use Rattle.print.specs.Put.{putAt, Fits, Put}
+use Rattle.buffer.specs.Put.{putAt, Fits, Put}
 use Rattle.print.specs.Decimal.{decimal}
 use Rattle.print.specs.Words.{wordBytes}
 use Rattle.line.specs.Fields.{Field, field, fieldsBytes, coordinates, pairFields, lineFields}
 use Rattle.line.specs.Lines.{lineOf, longest, Writes}
 use Rattle.print.specs.declared.words.Word.{Word}
 use Rattle.print.specs.declared.words.Word.the-variants as Word
-use Rattle.print.proofs.Putting.{and-then, first, left, same-length}
+use Rattle.buffer.proofs.Putting.{and-then, first, left, same-length}
 use Rattle.print.proofs.Numerals.{decimal-length}
 
 -- ---- lengths, each number counted at 21 bytes

@@ -10,7 +10,7 @@ ghost use mathlib.Core.List.{[], _∷_};
 ghost use lib.IntN.{pos};
 ghost use lib.ListN.{take};
 ghost use Rattle.space.specs.Vectors.{entries};
-ghost use Rattle.print.specs.Put.{Fits, Put};
+ghost use Rattle.buffer.specs.Put.{Fits, Put};
 ghost use Rattle.line.specs.Fields.{field, fieldsBytes, coordinates, pairFields, sizeFields, lineFields};
 
 // Coordinate number k, where n are shown.

@@ -30,7 +30,7 @@ use denote.Triple.Statement.{Contract, Triple}
 use denote.Triple.Call.{calls-at}
 use denote.Triple.Clauses.{ensured, lasts}
 use denote.Triple.Walked.{says}
-use Rattle.print.specs.Put.{Fits}
+use Rattle.buffer.specs.Put.{Fits}
 use Rattle.print.specs.Held.{wrote}
 use Rattle.print.specs.declared.held.Line.{Line}
 use Rattle.print.proofs.held.Line as T

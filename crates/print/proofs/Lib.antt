@@ -1,4 +1,3 @@
-pub mod Putting
 pub mod Numerals
 pub mod Cutting
 pub mod Again

@@ -11,9 +11,9 @@ use lib.Dec.{ltb}
 use lib.IntN.{ℤ, pos, negsuc, natAbs}
 use lib.ListN.{length, set, length-append}
 use lib.Signed.{ltZ}
-use Rattle.print.specs.Put.{Fits, Put}
+use Rattle.buffer.specs.Put.{Fits, Put}
 use Rattle.print.specs.Decimal.{leading, digits, decimal}
-use Rattle.print.proofs.Putting.{one, place, and-then, first, left, put-as, fits-as}
+use Rattle.buffer.proofs.Putting.{one, place, and-then, first, left, put-as, fits-as}
 use Rattle.space.proofs.Machine.{never}
 
 -- ---- by the tests of `put_digits`

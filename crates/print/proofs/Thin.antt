@@ -37,7 +37,7 @@ use denote.Triple.Walked.{says, needs, Stays, stay-none, walkOf, goes-none, Walk
 use denote.Exit.{Last, left, yes, no}
 use denote.Signature.{Signature, plain, namedLft}
 use denote.Signature.Struct.{inStruct, makes}
-use Rattle.print.specs.Put.{Fits, Put}
+use Rattle.buffer.specs.Put.{Fits, Put}
 use Rattle.print.specs.Held.{wrote}
 use Rattle.print.specs.declared.held.Line.{Line}
 use Rattle.print.proofs.held.Line as T

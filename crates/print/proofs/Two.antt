@@ -32,8 +32,8 @@ use denote.Triple.Clauses.{Clauses, Ended, closing}
 use denote.Triple.Walked.{says, needs, Stays, stay-none, gave-slice, walkOf, goes-none, goes-gave-slice, Walks, ends-at, walked, walk-meets}
 use denote.Exit.{yes}
 use denote.Signature.{Signature, plain}
-use Rattle.print.specs.Put.{Fits, Put}
-use Rattle.print.proofs.Putting.{and-then as puts-then, first, left, same-length}
+use Rattle.buffer.specs.Put.{Fits, Put}
+use Rattle.buffer.proofs.Putting.{and-then as puts-then, first, left, same-length}
 use Rattle.print.specs.Held.{wrote}
 use Rattle.print.specs.declared.held.Line.{Line}
 use Rattle.print.proofs.held.Line.Laws as T′

@@ -3,7 +3,7 @@ use Prim.Native.Nat.{ℕ, _+_}
 use mathlib.Core.List.{List}
 use lib.ListN.{length}
 use denote.Ref.{now, at-last}
-use Rattle.print.specs.Put.{putAt}
+use Rattle.buffer.specs.Put.{putAt}
 use Rattle.print.specs.declared.held.Line.{Line}
 
 -- the same borrow, with bs at the writer's place, and the next place

@@ -1,4 +1,3 @@
-pub mod Put
 pub mod Decimal
 pub mod Words
 pub mod Row

@@ -1,5 +1,5 @@
 // Decimal numbers, put into a buffer from a place on. Each function answers the next place.
-ghost use Rattle.print.specs.Put.{Fits, Put};
+ghost use Rattle.buffer.specs.Put.{Fits, Put};
 ghost use Rattle.print.specs.Decimal.{digits, decimal};
 ghost use lib.IntN.{pos};
 

@@ -3,7 +3,7 @@ use crate::words::Word;
 ghost use mathlib.Core.Path.{_≡_};
 ghost use mathlib.Core.List.{_++_};
 ghost use lib.IntN.{pos};
-ghost use Rattle.print.specs.Put.{Fits, Put};
+ghost use Rattle.buffer.specs.Put.{Fits, Put};
 ghost use Rattle.print.specs.Decimal.{decimal};
 ghost use Rattle.print.specs.Words.{wordBytes};
 ghost use Rattle.print.specs.Held.{wrote};

@@ -1,6 +1,6 @@
 use mathlib.Core.Path.{ap}
 use Rattle.line.specs.Fields.{fieldsBytes}
-use Rattle.print.proofs.Putting.{none, put-as, fits-as}
+use Rattle.buffer.proofs.Putting.{none, put-as, fits-as}
 use Rattle.line.proofs.Rows.{fieldBytes, room-head, put-last, room-held, put-held}
 use Rattle.line.proofs.Coordinates.{shown, hidden}
 use borrow.Author.Needs.{needs}

@@ -3,7 +3,7 @@ use mathlib.Core.Path.{_≡_, ap}
 use Prim.Native.Nat.{ℕ}
 use Rattle.verdict.specs.declared.Verdict.{Verdict}
 use Rattle.line.specs.Fields.{fieldsBytes, lineFields}
-use Rattle.print.proofs.Putting.{put-as, fits-as}
+use Rattle.buffer.proofs.Putting.{put-as, fits-as}
 use borrow.Author.Needs.{needs}
 use Rattle.line.proofs.fields.put_fields.Statement.{statement}
 use Rattle.line.proofs.fields.put_fields.Tie as tie

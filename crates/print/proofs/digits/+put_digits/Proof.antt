@@ -1,7 +1,7 @@
 use native.Mathlib.Omega.{arith}
 use borrow.Author.Needs.{needs}
 use lib.ListN.{length-set}
-use Rattle.print.proofs.Putting.{none, put-as, same-length}
+use Rattle.buffer.proofs.Putting.{none, put-as, same-length}
 use Rattle.print.proofs.Numerals.{digits-none, only-place, only-put, leading-room, last-place, last-put}
 use Prim.Native.Nat.{ℕ, _<_}
 use borrow.Fn.Kinds.{In}

@@ -8,7 +8,7 @@ use lib.Signed.{ltZ}
 use mir.Syntax.{w64}
 use mir.Val.{SFits}
 use Rattle.print.specs.Decimal.{digits, decimal}
-use Rattle.print.proofs.Putting.{one, place, and-then, first, left, put-as, fits-as, same-length as put-length}
+use Rattle.buffer.proofs.Putting.{one, place, and-then, first, left, put-as, fits-as, same-length as put-length}
 use Rattle.print.proofs.Numerals.{decimal-minus, decimal-plus}
 use Rattle.space.proofs.Machine.{held, back}
 use borrow.Author.Needs.{needs}

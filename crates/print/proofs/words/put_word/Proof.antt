@@ -1,5 +1,5 @@
 use native.Mathlib.Omega.{arith}
-use Rattle.print.proofs.Putting.{put-as, fits-as}
+use Rattle.buffer.proofs.Putting.{put-as, fits-as}
 use Rattle.print.proofs.Cutting.{within, word-cut}
 use borrow.Author.Needs.{needs}
 use Rattle.print.proofs.words.put_word.Statement.{statement}

@@ -1,12 +1,12 @@
--- Laws of putting bytes: two puts, one after the other, are one.
+-- Laws of putting bytes: what a put leaves, and that two puts, one after the other, are one.
 use mathlib.Core.Path.{_≡_, refl, sym, ap, ap₂, subst, _∙_}
 use mathlib.Core.List.{List, [], _∷_, _++_, append-assoc}
 use Prim.Native.Nat.{ℕ, _+_, _≤_, _<_}
-use native.Mathlib.Nat.{add-assoc}
+use native.Mathlib.Nat.{add-assoc, zero-add}
 use native.Mathlib.Omega.{arith}
 use lib.ListN.{length, take, drop, set, length-append, length-drop}
 use lib.Seq.{take-at, drop-drop, drop-append-add, length-take-le, paste-zero, sets-eq}
-use Rattle.print.specs.Put.{putAt, Fits, Put}
+use Rattle.buffer.specs.Put.{putAt, Fits, Put}
 
 -- what stands up to the end of the bytes that are put
 front-length : (s : List ℕ) (at : ℕ) (bs : List ℕ) → at ≤ length s → length (take at s ++ bs) ≡ at + length bs
@@ -37,6 +37,11 @@ module _ (s : List ℕ) (at : ℕ) (bs : List ℕ) (room : at + length bs ≤ le
       ∙ ap (λ (l : List ℕ). take at s ++ bs ++ cs ++ l) (back (length cs))
       ∙ ap (λ (l : List ℕ). l ++ drop (at + length bs + length cs) s) (append-assoc (take at s) bs cs)
       ∙ ap (λ (m : ℕ). take at s ++ (bs ++ cs) ++ drop m s) (add-assoc at (length bs) (length cs) ∙ ap (λ (m : ℕ). at + m) (sym (length-append bs cs)))
+
+-- at the front: the bytes, and what is left of the buffer
+pub at-front : (s bs : List ℕ) → putAt s 0 bs ≡ bs ++ drop (length bs) s
+unfolding putAt
+at-front s bs = rw zero-add refl
 
 -- nothing is put
 pub none : (s : List ℕ) (at : ℕ) → Put s at [] at s
