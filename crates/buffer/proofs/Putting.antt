@@ -16,7 +16,7 @@ module _ (s : List ℕ) (at : ℕ) (bs : List ℕ) (room : at + length bs ≤ le
   at-le : at ≤ length s
   at-le = omega arith
 
-  pub put-length : length (putAt s at bs) ≡ length s
+  put-length : length (putAt s at bs) ≡ length s
   unfolding putAt
   put-length = length-append (take at s ++ bs) (drop (at + length bs) s) ∙ omega (arith, front-length s at bs at-le, length-drop (at + length bs) s)
 
@@ -66,6 +66,10 @@ module _ {s : List ℕ} {at : ℕ} {bs : List ℕ} {r : ℕ} {t : List ℕ} (p :
     next = omega (arith, p .next, o .next, length-append bs cs);
     all = o .all ∙ ap₂ (λ (l : List ℕ) (m : ℕ). putAt l m cs) (p .all) (p .next) ∙ twice s at bs (h .room) cs;
   }
+
+-- there is one next place, and one buffer then
+pub put-unique : {s : List ℕ} {at : ℕ} {bs : List ℕ} {r r′ : ℕ} {t t′ : List ℕ} → Put s at bs r t → Put s at bs r′ t′ → (r ≡ r′) × (t ≡ t′)
+put-unique p q = (p .next ∙ sym (q .next), p .all ∙ sym (q .all))
 
 -- the room of the first, and the room that is left for the second
 pub first : {s : List ℕ} {at : ℕ} (bs cs : List ℕ) → Fits s at (bs ++ cs) → Fits s at bs

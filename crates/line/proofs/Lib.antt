@@ -1,5 +1,7 @@
 pub mod Whole
 pub mod Printing
 pub mod Example
+pub mod Leading
+pub mod Saying
 pub mod Rows
 pub mod Coordinates

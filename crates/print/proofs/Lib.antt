@@ -5,4 +5,4 @@ pub mod Exits
 pub mod Thin
 pub mod Values
 pub mod Calls
-pub mod Two
+pub mod Chain

@@ -1,4 +1,4 @@
 pub mod Decimal
 pub mod Words
-pub mod Row
-pub mod Held
+pub mod Spans
+pub mod LineWriter

@@ -4,11 +4,10 @@ ghost use Prim.Native.Nat.{_≤_, _-_};
 ghost use lib.ListN.{length, take, drop};
 ghost use Rattle.buffer.specs.Put.{Fits, Put};
 ghost use Rattle.print.specs.Words.{wordBytes};
-ghost use Rattle.print.specs.Row.{from, to};
+ghost use Rattle.print.specs.Spans.{from, to};
 
 // Each with the blanks about it.
 pub enum Word {
-    Nothing,
     AcceptedCells,
     Ticks,
     Room,
@@ -21,12 +20,11 @@ pub enum Word {
     End,
 }
 
-// Where a word starts in the row of them all. (A match to eleven byte strings would be far longer to prove than one string and two tables.)
+// Where a word starts in the row of them all. (A match to ten byte strings would be far longer to prove than one string and two tables.)
 fn from_of(w: Word) -> usize
     ensures { λ r. ⌜ r ≡ from w ⌝ }
 {
     match w {
-        Word::Nothing => 0,
         Word::AcceptedCells => 0,
         Word::Ticks => 15,
         Word::Room => 22,
@@ -45,7 +43,6 @@ fn to_of(w: Word) -> usize
     ensures { λ r. ⌜ r ≡ to w ⌝ }
 {
     match w {
-        Word::Nothing => 0,
         Word::AcceptedCells => 15,
         Word::Ticks => 22,
         Word::Room => 28,
