@@ -1,102 +1,93 @@
-// The job's file, put over the front of a lent buffer part by part: header, box, streams, matrices.
+// The job's file, put into a lent buffer part by part: header, box, streams, matrices. Each part answers the place where the next one starts.
 use job::Job;
 use job::Stream;
 use space::Vector;
 ghost use mathlib.Core.Path.{_≡_};
-ghost use Prim.Native.Nat.{_+_, _*_, _≤_};
-ghost use lib.ListN.{length, take};
+ghost use Prim.Native.Nat.{_≤_};
 ghost use Rattle.job.specs.Limits.{Acceptable};
 ghost use Rattle.layout.specs.Layout.{InBytes, headerOf, boxBytes, streamsBytes, matrixBytes, streamBytes, vectorBytes, fileOf};
-ghost use Rattle.file.specs.Files.{totalFor, over, Puts};
+ghost use Rattle.buffer.specs.Put.{Fits, Put};
 
-// The job's file at the front: header, box, streams, matrices.
-pub fn put_job(buf: &mut [u8], j: Job)
-    requires { ⌜ Acceptable j × (totalFor j ≤ length (now buf)) ⌝ }
-    ensures { λ _. ⌜ now (buf .exit) ≡ over (fileOf j) (now (buf .entry)) ⌝ }
+// The job's file at the front, and the total.
+pub fn put_job(buf: &mut [u8], j: Job) -> usize
+    requires { ⌜ Acceptable j × Fits (now buf) 0 (fileOf j) ⌝ }
+    ensures { λ r. ⌜ Put (now (buf .entry)) 0 (fileOf j) r (now (buf .exit)) ⌝ }
 {
-    let n = wide(j.n);
-    let m = wide(j.m);
-    put_header(buf, j);
-    put_box(buf, 16, j);
-    put_streams(buf, layout::streams_from(n), j);
-    put_matrices(buf, layout::matrices_from(n, m), j);
+    let sides = put_header(buf, 0, j);
+    let streams = put_box(buf, sides, j);
+    let matrices = put_streams(buf, streams, j);
+    put_matrices(buf, matrices, j)
 }
 
-// The header, at the front.
-fn put_header(buf: &mut [u8], j: Job)
-    requires { ⌜ Acceptable j × (16 ≤ length (now buf)) ⌝ }
-    ensures { λ _. ⌜ Puts 0 (headerOf 1 (j .n) (j .k) (j .m)) (now (buf .entry)) (now (buf .exit)) ⌝ }
+// The header.
+fn put_header(buf: &mut [u8], at: usize, j: Job) -> usize
+    requires { ⌜ Acceptable j × Fits (now buf) at (headerOf 1 (j .n) (j .k) (j .m)) ⌝ }
+    ensures { λ r. ⌜ Put (now (buf .entry)) at (headerOf 1 (j .n) (j .k) (j .m)) r (now (buf .exit)) ⌝ }
 {
     let header = layout::header_of(j.n, j.k, j.m);
-    copy_at(buf, 0, &header, 16);
+    buffer::put_bytes(buf, at, &header)
 }
 
 // The box: l, u for each dimension.
-fn put_box(buf: &mut [u8], at: usize, j: Job)
-    requires { ⌜ Acceptable j × (at + 2 * j .n ≤ length (now buf)) ⌝ }
-    ensures { λ _. ⌜ Puts at (boxBytes 1 j) (now (buf .entry)) (now (buf .exit)) ⌝ }
+fn put_box(buf: &mut [u8], at: usize, j: Job) -> usize
+    requires { ⌜ Acceptable j × Fits (now buf) at (boxBytes 1 j) ⌝ }
+    ensures { λ r. ⌜ Put (now (buf .entry)) at (boxBytes 1 j) r (now (buf .exit)) ⌝ }
 {
     let b = j.bounds;
-    let low = b.low;
-    let high = b.high;
-    let l = vector_bytes(low);
-    let u = vector_bytes(high);
+    let l = vector_bytes(b.low);
+    let u = vector_bytes(b.high);
     let sides = [l[0], u[0], l[1], u[1], l[2], u[2], l[3], u[3]];
-    copy_at(buf, at, &sides, 2 * wide(j.n));
+    let size = 2 * j.n as usize;
+    buffer::put_bytes(buf, at, &sides[..size])
 }
 
 // The streams, one after the other.
-fn put_streams(buf: &mut [u8], from: usize, j: Job)
-    requires { ⌜ Acceptable j × (from + j .m * (j .n + 4) ≤ length (now buf)) ⌝ }
-    ensures { λ _. ⌜ Puts from (streamsBytes 1 j) (now (buf .entry)) (now (buf .exit)) ⌝ }
+fn put_streams(buf: &mut [u8], at: usize, j: Job) -> usize
+    requires { ⌜ Acceptable j × Fits (now buf) at (streamsBytes 1 j) ⌝ }
+    ensures { λ r. ⌜ Put (now (buf .entry)) at (streamsBytes 1 j) r (now (buf .exit)) ⌝ }
 {
-    let n = wide(j.n);
-    let m = j.m;
     let mut i: u8 = 0;
-    let mut at = from;
-    while i < m {
-        let s = job::stream_at(j, i);
-        put_stream(buf, at, n, s);
-        at = at + (n + 4);
+    let mut next = at;
+    while i < j.m {
+        next = put_stream(buf, next, j.n, job::stream_at(j, i));
         i += 1;
     }
+    next
 }
 
 // H, then each row of S.
-fn put_matrices(buf: &mut [u8], from: usize, j: Job)
-    requires { ⌜ Acceptable j × (from + (1 + j .k) * j .n ≤ length (now buf)) ⌝ }
-    ensures { λ _. ⌜ Puts from (matrixBytes 1 j) (now (buf .entry)) (now (buf .exit)) ⌝ }
+fn put_matrices(buf: &mut [u8], at: usize, j: Job) -> usize
+    requires { ⌜ Acceptable j × Fits (now buf) at (matrixBytes 1 j) ⌝ }
+    ensures { λ r. ⌜ Put (now (buf .entry)) at (matrixBytes 1 j) r (now (buf .exit)) ⌝ }
 {
-    let n = wide(j.n);
-    let k = j.k;
     let mut i: u8 = 0;
-    let mut at = from;
-    while i <= k {
-        let v = job::row_at(j, i);
-        put_vector(buf, at, n, v);
-        at = at + n;
+    let mut next = at;
+    while i <= j.k {
+        next = put_vector(buf, next, j.n, job::row_at(j, i));
         i += 1;
     }
+    next
 }
 
 // A stream: d, kind, rule, a, b.
-fn put_stream(buf: &mut [u8], at: usize, n: usize, s: Stream)
-    requires { ⌜ (n ≤ 4) × InBytes (s .d) × (at + (n + 4) ≤ length (now buf)) ⌝ }
-    ensures { λ _. ⌜ Puts at (streamBytes 1 n s) (now (buf .entry)) (now (buf .exit)) ⌝ }
+fn put_stream(buf: &mut [u8], at: usize, n: u8, s: Stream) -> usize
+    requires { ⌜ (n ≤ 4) × InBytes (s .d) × Fits (now buf) at (streamBytes 1 n s) ⌝ }
+    ensures { λ r. ⌜ Put (now (buf .entry)) at (streamBytes 1 n s) r (now (buf .exit)) ⌝ }
 {
     let d = s.d;
-    put_vector(buf, at, n, d);
+    let next = put_vector(buf, at, n, d);
     let rest = [s.kind, s.rule, s.a, s.b];
-    copy_at(buf, at + n, &rest, 4);
+    buffer::put_bytes(buf, next, &rest)
 }
 
 // The first n entries of a vector.
-fn put_vector(buf: &mut [u8], at: usize, n: usize, v: Vector)
-    requires { ⌜ (n ≤ 4) × InBytes v × (at + n ≤ length (now buf)) ⌝ }
-    ensures { λ _. ⌜ Puts at (vectorBytes 1 n v) (now (buf .entry)) (now (buf .exit)) ⌝ }
+fn put_vector(buf: &mut [u8], at: usize, n: u8, v: Vector) -> usize
+    requires { ⌜ (n ≤ 4) × InBytes v × Fits (now buf) at (vectorBytes 1 n v) ⌝ }
+    ensures { λ r. ⌜ Put (now (buf .entry)) at (vectorBytes 1 n v) r (now (buf .exit)) ⌝ }
 {
     let bytes = vector_bytes(v);
-    copy_at(buf, at, &bytes, n);
+    let size = n as usize;
+    buffer::put_bytes(buf, at, &bytes[..size])
 }
 
 // The bytes of all four entries.
@@ -110,23 +101,4 @@ fn vector_bytes(v: Vector) -> [u8; 4]
         layout::byte_of(v.x2),
         layout::byte_of(v.x3),
     ]
-}
-
-// The first n bytes of src, laid over the buffer from at on.
-fn copy_at(buf: &mut [u8], at: usize, src: &[u8], n: usize)
-    requires { ⌜ (at + n ≤ length (now buf)) × (n ≤ length (now src)) ⌝ }
-    ensures { λ _. ⌜ Puts at (take n (now (src .entry))) (now (buf .entry)) (now (buf .exit)) ⌝ }
-{
-    let mut i = 0;
-    while i < n {
-        buf[at + i] = src[i];
-        i += 1;
-    }
-}
-
-// A byte as a length.
-fn wide(x: u8) -> usize
-    ensures { λ r. ⌜ r ≡ x ⌝ }
-{
-    x as usize
 }

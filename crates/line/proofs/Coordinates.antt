@@ -1,22 +1,21 @@
 -- Laws of coordinates: how those of a point are put one by one.
-use mathlib.Core.Path.{_≡_, refl, sym, ap, _∙_}
+use mathlib.Core.Path.{_≡_, refl, sym, ap, ap₂, _∙_}
 use mathlib.Core.List.{List, [], _∷_, _++_}
-use Prim.Native.Nat.{ℕ, zero, suc, _-_, _≤_, _<_}
+use Prim.Native.Nat.{ℕ, zero, suc, _-_, _^_, _≤_, _<_}
 use native.Mathlib.Decide.{decLe}
 use native.Mathlib.Omega.{arith}
 use lib.IntN.{ℤ}
 use lib.ListN.{take}
-use mir.Syntax.{w64}
-use mir.Val.{SFits}
+use lib.Signed.{mag}
 use Rattle.space.specs.Vectors.{entries}
 use Rattle.space.specs.declared.Vector.{Vector}
-use Rattle.space.proofs.Machine.{held}
-use Rattle.print.specs.Put.{Fits, Put}
+use Rattle.space.proofs.Machine.{held, back, in-range}
+use Rattle.buffer.specs.Put.{Fits, Put}
 use Rattle.line.specs.Fields.{Field, field, fieldsBytes, coordinates}
 use Rattle.print.specs.declared.words.Word.{Word}
 use Rattle.print.specs.declared.words.Word.the-variants as Word
-use Rattle.print.proofs.Putting.{put-as, fits-as}
-use Rattle.line.proofs.Rows.{room-first, room-rest, put-rest, room-held, put-held}
+use Rattle.buffer.proofs.Putting.{put-as, fits-as}
+use Rattle.line.proofs.Rows.{room-first, room-rest, put-rest}
 
 -- coordinate k, where n are shown
 pub shown : (w : Word) (x : ℤ) (n k : ℕ) → k < n → coordinates w (take (n - k) (x ∷ [])) ≡ field w x ∷ []
@@ -43,58 +42,37 @@ from-next w x xs n k = by (decLe n k)
         let i : k < n = omega arith in
         ap (λ (m : ℕ). coordinates w (take m (x ∷ xs))) e ∙ ap (λ (fs : List Field). fs ++ coordinates Word.Blank (take (n - suc k) xs)) (sym (shown w x n k i))
 
--- what `put_coordinate` puts
-abbrev one-of : Word → ℕ → ℕ → ℤ → List ℕ
-one-of w n k x = fieldsBytes (coordinates w (take (n - k) (x ∷ [])))
+-- what is put from coordinate k on: `put_coordinate` puts the first of it
+abbrev all-from : Word → ℕ → ℕ → List ℤ → List ℕ
+all-from w n k xs = fieldsBytes (coordinates w (take (n - k) xs))
 
-module _ {s : List ℕ} {at : ℕ} (w : Word) (x : ℤ) (xs : List ℤ) (n k : ℕ) (size : SFits w64 x) (room : Fits s at (fieldsBytes (coordinates w (take (n - k) (x ∷ xs))))) where
-  split-room : Fits s at (fieldsBytes (coordinates w (take (n - k) (x ∷ [])) ++ coordinates Word.Blank (take (n - suc k) xs)))
+module _ {s : List ℕ} {at : ℕ} (w : Word) (x : ℤ) (xs : List ℤ) (n k : ℕ) (room : Fits s at (all-from w n k (x ∷ xs))) where
+  abbrev head : List Field
+  head = coordinates w (take (n - k) (x ∷ []))
+
+  abbrev tail : List Field
+  tail = coordinates Word.Blank (take (n - suc k) xs)
+
+  split-room : Fits s at (fieldsBytes (head ++ tail))
   split-room = fits-as (ap fieldsBytes (from-next w x xs n k)) room
 
-  room-one : Fits s at (one-of w n k (held x))
-  room-one = room-held (one-of w n k) x size (room-first (coordinates w (take (n - k) (x ∷ []))) (coordinates Word.Blank (take (n - suc k) xs)) split-room)
+  pub room-one : Fits s at (fieldsBytes head)
+  room-one = room-first head tail split-room
 
-  module _ {r : ℕ} {t : List ℕ} (p : Put s at (one-of w n k (held x)) r t) where
-    room-others : Fits t r (fieldsBytes (coordinates Word.Blank (take (n - suc k) xs)))
-    room-others = room-rest (coordinates w (take (n - k) (x ∷ []))) (coordinates Word.Blank (take (n - suc k) xs)) split-room (put-held (one-of w n k) x size p)
+  module _ {r : ℕ} {t : List ℕ} (p : Put s at (fieldsBytes head) r t) where
+    pub room-others : Fits t r (all-from Word.Blank n (suc k) xs)
+    room-others = room-rest head tail split-room p
 
-    put-others : {j : ℕ} {u : List ℕ} → Put t r (fieldsBytes (coordinates Word.Blank (take (n - suc k) xs))) j u → Put s at (fieldsBytes (coordinates w (take (n - k) (x ∷ xs)))) j u
-    put-others o =
-        put-as (ap fieldsBytes (from-next w x xs n k))
-        (put-rest (coordinates w (take (n - k) (x ∷ []))) (coordinates Word.Blank (take (n - suc k) xs)) split-room (put-held (one-of w n k) x size p) o)
+    pub put-others : {j : ℕ} {u : List ℕ} → Put t r (all-from Word.Blank n (suc k) xs) j u → Put s at (all-from w n k (x ∷ xs)) j u
+    put-others o = put-as (ap fieldsBytes (from-next w x xs n k)) (put-rest head tail split-room p o)
 
--- the four coordinates of a point, one after the other
-module _ {s : List ℕ} {at : ℕ} (w : Word) (n : ℕ) (p : Vector) (size0 : SFits w64 (p .x0)) (size1 : SFits w64 (p .x1)) (size2 : SFits w64 (p .x2)) (size3 : SFits w64 (p .x3)) (room : Fits s at (fieldsBytes (coordinates w (take n (entries p))))) where
-  from-first : fieldsBytes (coordinates w (take n (entries p))) ≡ fieldsBytes (coordinates w (take (n - 0) (entries p)))
-  from-first = let e : n ≡ n - 0 = omega arith in ap (λ (m : ℕ). fieldsBytes (coordinates w (take m (entries p)))) e
+-- a point as its coordinates are read from their bits
+abbrev heldOf : Vector → Vector
+heldOf p = record { x0 = held (p .x0); x1 = held (p .x1); x2 = held (p .x2); x3 = held (p .x3) }
 
-  rest0 : Fits s at (fieldsBytes (coordinates w (take (n - 0) (entries p))))
-  rest0 = fits-as from-first room
-
-  pub room0 : Fits s at (one-of w n 0 (held (p .x0)))
-  room0 = room-one w (p .x0) (p .x1 ∷ p .x2 ∷ p .x3 ∷ []) n 0 size0 rest0
-
-  module _ {i : ℕ} {t : List ℕ} (put0 : Put s at (one-of w n 0 (held (p .x0))) i t) where
-    rest1 : Fits t i (fieldsBytes (coordinates Word.Blank (take (n - 1) (p .x1 ∷ p .x2 ∷ p .x3 ∷ []))))
-    rest1 = room-others w (p .x0) (p .x1 ∷ p .x2 ∷ p .x3 ∷ []) n 0 size0 rest0 put0
-
-    pub room1 : Fits t i (one-of Word.Blank n 1 (held (p .x1)))
-    room1 = room-one Word.Blank (p .x1) (p .x2 ∷ p .x3 ∷ []) n 1 size1 rest1
-
-    module _ {j : ℕ} {u : List ℕ} (put1 : Put t i (one-of Word.Blank n 1 (held (p .x1))) j u) where
-      rest2 : Fits u j (fieldsBytes (coordinates Word.Blank (take (n - 2) (p .x2 ∷ p .x3 ∷ []))))
-      rest2 = room-others Word.Blank (p .x1) (p .x2 ∷ p .x3 ∷ []) n 1 size1 rest1 put1
-
-      pub room2 : Fits u j (one-of Word.Blank n 2 (held (p .x2)))
-      room2 = room-one Word.Blank (p .x2) (p .x3 ∷ []) n 2 size2 rest2
-
-      module _ {k : ℕ} {v : List ℕ} (put2 : Put u j (one-of Word.Blank n 2 (held (p .x2))) k v) where
-        pub room3 : Fits v k (one-of Word.Blank n 3 (held (p .x3)))
-        room3 = room-held (one-of Word.Blank n 3) (p .x3) size3 (room-others Word.Blank (p .x2) (p .x3 ∷ []) n 2 size2 rest2 put2)
-
-        pub put-all : {r : ℕ} {z : List ℕ} → Put v k (one-of Word.Blank n 3 (held (p .x3))) r z → Put s at (fieldsBytes (coordinates w (take n (entries p)))) r z
-        put-all put3 =
-            put-as from-first
-            (put-others w (p .x0) (p .x1 ∷ p .x2 ∷ p .x3 ∷ []) n 0 size0 rest0 put0
-            (put-others Word.Blank (p .x1) (p .x2 ∷ p .x3 ∷ []) n 1 size1 rest1 put1
-            (put-others Word.Blank (p .x2) (p .x3 ∷ []) n 2 size2 rest2 put2 (put-held (one-of Word.Blank n 3) (p .x3) size3 put3))))
+pub point-as : (w : Word) (n : ℕ) (p : Vector) {A B C D : Type 0} → (A × (mag (p .x0) < 2 ^ 63)) × ((B × (mag (p .x1) < 2 ^ 63)) × ((C × (mag (p .x2) < 2 ^ 63)) × ((D × (mag (p .x3) < 2 ^ 63)) × Unit {0})))
+    → fieldsBytes (coordinates w (take n (entries p))) ≡ all-from w n 0 (entries (heldOf p))
+point-as w n p told =
+    let same : heldOf p ≡ p = λ i. record { x0 = back {z = p .x0} (in-range (told .0 .1)) i; x1 = back {z = p .x1} (in-range (told .1 .0 .1)) i; x2 = back {z = p .x2} (in-range (told .1 .1 .0 .1)) i; x3 = back {z = p .x3} (in-range (told .1 .1 .1 .0 .1)) i } in
+    let e : n ≡ n - 0 = omega arith in
+    ap₂ (λ (m : ℕ) (v : Vector). fieldsBytes (coordinates w (take m (entries v)))) e (sym same)

@@ -6,12 +6,12 @@ use lib.IntN.{ℤ}
 use mir.Syntax.{w64}
 use mir.Val.{SFits}
 use Rattle.space.proofs.Machine.{held, back}
-use Rattle.print.specs.Put.{Fits, Put}
+use Rattle.buffer.specs.Put.{Fits, Put}
 use Rattle.print.specs.Decimal.{decimal}
 use Rattle.print.specs.Words.{wordBytes}
 use Rattle.line.specs.Fields.{Field, field, fieldsBytes}
 use Rattle.print.specs.declared.words.Word.{Word}
-use Rattle.print.proofs.Putting.{and-then, first, left, put-as, fits-as}
+use Rattle.buffer.proofs.Putting.{and-then, first, left, put-as, fits-as}
 
 -- what `put_field` and `put_count` put
 abbrev pub fieldBytes : Word → ℤ → List ℕ

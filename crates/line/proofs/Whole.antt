@@ -1,23 +1,23 @@
 -- Laws of the whole line: how long it can be, and how it is put.
-use mathlib.Core.Path.{_≡_, sym, ap, _∙_}
+use mathlib.Core.Path.{_≡_, sym, ap₂}
 use mathlib.Core.List.{List, [], _∷_, _++_}
 use Prim.Native.Nat.{ℕ, zero, suc, _+_, _*_, _≤_}
 use native.Mathlib.Omega.{arith}
 use lib.IntN.{ℤ}
-use lib.ListN.{length, take, drop, length-append}
+use lib.ListN.{length, take, length-append}
 use Rattle.space.specs.Vectors.{entries}
 use Rattle.space.specs.declared.Vector.{Vector}
 use Rattle.verdict.specs.declared.Pair.{Pair}
 use Rattle.verdict.specs.declared.Verdict.{Verdict}
 use Rattle.verdict.specs.declared.Verdict.the-variants.{Accepted, Limit, Precedence, Hop, Cell, Link}
-use Rattle.print.specs.Put.{putAt, Fits, Put}
+use Rattle.buffer.specs.Put.{Fits, Put}
 use Rattle.print.specs.Decimal.{decimal}
 use Rattle.print.specs.Words.{wordBytes}
-use Rattle.line.specs.Fields.{Field, field, fieldsBytes, coordinates, pairFields, lineFields}
+use Rattle.line.specs.Fields.{Field, field, fieldsBytes, coordinates, pairFields, lead, besides, lineFields}
 use Rattle.line.specs.Lines.{lineOf, longest, Writes}
 use Rattle.print.specs.declared.words.Word.{Word}
 use Rattle.print.specs.declared.words.Word.the-variants as Word
-use Rattle.print.proofs.Putting.{and-then, first, left, same-length}
+use Rattle.buffer.proofs.Putting.{same-length}
 use Rattle.print.proofs.Numerals.{decimal-length}
 
 -- ---- lengths, each number counted at 21 bytes
@@ -71,31 +71,18 @@ pub line-length : (n : ℕ) (v : Verdict) → length (lineOf n v) ≤ longest
 unfolding lineOf wordBytes
 line-length n v = omega (arith, line-width n v, row-length (lineFields n v), length-append (fieldsBytes (lineFields n v)) (wordBytes Word.End))
 
--- ---- the whole line: its fields, and the closing words
+-- ---- the whole line: its first word and number, its other fields, and the newline
+pub line-as : (n : ℕ) (v : Verdict) {w : Word} {x : ℤ} → w ≡ lead v .word → x ≡ lead v .value → lineOf n v ≡ wordBytes w ++ decimal x ++ fieldsBytes (besides n v) ++ wordBytes Word.End
+unfolding fieldsBytes lineFields lineOf
+line-as n v d e = ap₂ (λ (w : Word) (x : ℤ). wordBytes w ++ decimal x ++ fieldsBytes (besides n v) ++ wordBytes Word.End) (sym d) (sym e)
+
 module _ {s : List ℕ} (n : ℕ) (v : Verdict) (long : longest ≤ length s) where
-  line-room : Fits s 0 (lineOf n v)
+  pub line-room : Fits s 0 (lineOf n v)
   line-room = record { room = omega (arith, line-length n v) }
 
-  pub fields-room : Fits s 0 (fieldsBytes (lineFields n v))
-  unfolding lineOf
-  fields-room = first (fieldsBytes (lineFields n v)) (wordBytes Word.End) line-room
+  module _ {r : ℕ} {t : List ℕ} (p : Put s 0 (lineOf n v) r t) where
+    pub line-written : Writes s (lineOf n v) r t
+    line-written = record { written = λ h. p; short = λ h. absurd (omega arith) }
 
-  module _ {k : ℕ} {t : List ℕ} (p : Put s 0 (fieldsBytes (lineFields n v)) k t) where
-    pub close-room : Fits t k (wordBytes Word.Nothing ++ wordBytes Word.End)
-    unfolding lineOf wordBytes
-    close-room = left (fieldsBytes (lineFields n v)) (wordBytes Word.End) line-room p
-
-    module _ {r : ℕ} {u : List ℕ} (o : Put t k (wordBytes Word.Nothing ++ wordBytes Word.End) r u) where
-      line-put : Put s 0 (lineOf n v) r u
-      unfolding lineOf wordBytes
-      line-put = and-then p fields-room o
-
-      pub line-written : Writes s (lineOf n v) r u
-      unfolding putAt
-      line-written = record {
-        written = λ h. (omega (arith, line-put .next), line-put .all ∙ ap (λ (m : ℕ). lineOf n v ++ drop m s) (sym (line-put .next)));
-        short = λ h. absurd (omega arith);
-      }
-
-      pub line-inside : r ≤ length u
-      line-inside = omega (arith, line-put .next, line-length n v, same-length line-put line-room)
+    pub line-inside : r ≤ length t
+    line-inside = omega (arith, p .next, line-length n v, same-length p line-room)

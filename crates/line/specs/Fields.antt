@@ -5,6 +5,7 @@ use lib.IntN.{ℤ, pos}
 use lib.ListN.{take}
 use Rattle.space.specs.Vectors.{entries}
 use Rattle.verdict.specs.Verdicts.{numberOf}
+use Rattle.verdict.specs.declared.Collision.{Collision}
 use Rattle.verdict.specs.declared.Extent.{Extent}
 use Rattle.verdict.specs.declared.Pair.{Pair}
 use Rattle.verdict.specs.declared.Verdict.{Verdict}
@@ -36,28 +37,40 @@ coordinates w (x ∷ xs) = field w x ∷ coordinates Word.Blank xs
 unfoldable pub pairFields : ℕ → Pair → List Field
 pairFields n c = coordinates Word.Pair (take n (entries (c .p))) ++ coordinates Word.Slash (take n (entries (c .q)))
 
--- 'for 9, 10 ` stream S`; for 11 ` pair P / Q`; for 12 ` stream S pair P / Q hops F`'
-abbrev pub besides : ℕ → Verdict → List Field
-besides n (Accepted z) = []
-besides n (Limit r) = []
-besides n (Precedence s) = field Word.Stream (pos s) ∷ []
-besides n (Hop s) = field Word.Stream (pos s) ∷ []
-besides n (Cell c) = pairFields n c
-besides n (Link c) = field Word.Stream (pos (c .stream)) ∷ pairFields n (c .pair) ++ (field Word.Hops (c .hops) ∷ [])
-
--- '`accepted cells C ticks T room R`'
+-- '` ticks T room R`'
 abbrev pub sizeFields : Extent → List Field
-sizeFields z = field Word.AcceptedCells (pos (z .cells)) ∷ field Word.Ticks (pos (z .ticks)) ∷ field Word.Room (pos (z .room)) ∷ []
+sizeFields z = field Word.Ticks (pos (z .ticks)) ∷ field Word.Room (pos (z .room)) ∷ []
 
--- '`refused N`', and what stands besides
-abbrev pub refusedFields : ℕ → Verdict → List Field
-refusedFields n v = field Word.Refused (pos (numberOf v)) ∷ besides n v
+-- '` stream S`'
+abbrev pub streamFields : ℕ → List Field
+streamFields s = field Word.Stream (pos s) ∷ []
 
--- the words and numbers of a verdict on a job of n dimensions
+-- '` stream S pair P / Q hops F`'
+abbrev pub linkFields : ℕ → Collision → List Field
+linkFields n c = streamFields (c .stream) ++ pairFields n (c .pair) ++ (field Word.Hops (c .hops) ∷ [])
+
+-- what stands past the first number, for a job of n dimensions: 'for 9, 10 ` stream S`; for 11 ` pair P / Q`; for 12 ` stream S pair P / Q hops F`'
+abbrev pub besides : ℕ → Verdict → List Field
+besides n (Accepted z) = sizeFields z
+besides n (Limit r) = []
+besides n (Precedence s) = streamFields s
+besides n (Hop s) = streamFields s
+besides n (Cell c) = pairFields n c
+besides n (Link c) = linkFields n c
+
+-- '`refused N`'
+abbrev pub refused : Verdict → Field
+refused v = field Word.Refused (pos (numberOf v))
+
+-- '`accepted cells C`', or '`refused N`'
+abbrev pub lead : Verdict → Field
+lead (Accepted z) = field Word.AcceptedCells (pos (z .cells))
+lead (Limit r) = refused (Limit r)
+lead (Precedence s) = refused (Precedence s)
+lead (Hop s) = refused (Hop s)
+lead (Cell c) = refused (Cell c)
+lead (Link c) = refused (Link c)
+
+-- the words and numbers of a verdict's line
 unfoldable pub lineFields : ℕ → Verdict → List Field
-lineFields n (Accepted z) = sizeFields z
-lineFields n (Limit r) = refusedFields n (Limit r)
-lineFields n (Precedence s) = refusedFields n (Precedence s)
-lineFields n (Hop s) = refusedFields n (Hop s)
-lineFields n (Cell c) = refusedFields n (Cell c)
-lineFields n (Link c) = refusedFields n (Link c)
+lineFields n v = lead v ∷ besides n v

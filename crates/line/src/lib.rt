@@ -1,10 +1,20 @@
 // The printed line of a verdict, made in a lent buffer by a line writer that holds it.
-pub mod fields;
+pub mod said;
 
+use crate::said::Said;
+use print::line_writer::Line;
+use print::numbers::Number;
 use print::words::Word;
 use verdict::Verdict;
+ghost use mathlib.Core.Path.{_≡_};
+ghost use mathlib.Core.List.{_++_};
 ghost use Prim.Native.Nat.{_≤_};
 ghost use lib.ListN.{length};
+ghost use Rattle.buffer.specs.Put.{Fits, Put};
+ghost use Rattle.print.specs.Decimal.{valueOf, decimal};
+ghost use Rattle.print.specs.Words.{wordBytes};
+ghost use Rattle.print.specs.LineWriter.{wrote};
+ghost use Rattle.line.specs.Fields.{fieldsBytes, lead, besides};
 ghost use Rattle.line.specs.Lines.{lineOf, Writes};
 
 // No line is longer, each number counted at 21 bytes.
@@ -18,6 +28,57 @@ pub fn write_line(out: &mut [u8], n: u8, v: Verdict) -> usize
     if out.len() < LONGEST {
         return 0;
     }
-    let i = crate::fields::put_fields(out, 0, n, v);
-    print::held::put_close(out, i, Word::Nothing, Word::End)
+    put_line(out, lead_of(v), first_of(v), Said { n: n, verdict: v })
+}
+
+// The word that the line of a verdict starts with.
+fn lead_of(v: Verdict) -> Word
+    ensures { λ r. ⌜ r ≡ lead v .word ⌝ }
+{
+    if let Verdict::Accepted(_size) = v {
+        Word::AcceptedCells
+    } else {
+        Word::Refused
+    }
+}
+
+// The number after it.
+fn first_of(v: Verdict) -> Number
+    ensures { λ r. ⌜ valueOf r ≡ lead v .value ⌝ }
+{
+    if let Verdict::Accepted(size) = v {
+        Number::Count(size.cells)
+    } else {
+        Number::Count(verdict::numbers::in_numbers(v).number as u64)
+    }
+}
+
+// Puts what is said past the first number.
+pub fn fields<'a>(l: Line<'a>, said: Said) -> Line<'a>
+    requires { ⌜ Fits (now (l .out)) (l .at) (fieldsBytes (besides (said .n) (said .verdict))) ⌝ }
+    ensures { λ r. ⌜ r ≡ wrote (l .entry) (fieldsBytes (besides (said .n) (said .verdict))) ⌝ }
+{
+    let at = l.at;
+    let next = crate::said::put_fields(&mut *l.out, at, said);
+    Line {
+        out: l.out,
+        at: next,
+    }
+}
+
+// A whole line: its first word and number, what is said past them, and the newline. One writer holds the buffer from the first to the last.
+fn put_line(out: &mut [u8], first: Word, number: Number, said: Said) -> usize
+    requires { ⌜ Fits (now out) 0 (wordBytes first ++ decimal (valueOf number) ++ fieldsBytes (besides (said .n) (said .verdict)) ++ wordBytes Word.End) ⌝ }
+    ensures { λ r. ⌜ Put (now (out .entry)) 0 (wordBytes first ++ decimal (valueOf number) ++ fieldsBytes (besides (said .n) (said .verdict)) ++ wordBytes Word.End) r (now (out .exit)) ⌝ }
+{
+    print::line_writer::end(print::line_writer::word(
+        fields(
+            print::line_writer::number(
+                print::line_writer::word(print::line_writer::begin(out, 0), first),
+                number,
+            ),
+            said,
+        ),
+        Word::End,
+    ))
 }

@@ -30,14 +30,14 @@ use denote.Triple.Statement.{Contract, Triple}
 use denote.Triple.Call.{calls-at}
 use denote.Triple.Clauses.{ensured, lasts}
 use denote.Triple.Walked.{says}
-use Rattle.print.specs.Put.{Fits}
-use Rattle.print.specs.Held.{wrote}
-use Rattle.print.specs.declared.held.Line.{Line}
-use Rattle.print.proofs.held.Line as T
-use Rattle.print.proofs.held.Line.Laws as T′
+use Rattle.buffer.specs.Put.{Fits}
+use Rattle.print.specs.LineWriter.{wrote}
+use Rattle.print.specs.declared.line_writer.Line.{Line}
+use Rattle.print.proofs.line_writer.Line as T
+use Rattle.print.proofs.line_writer.Line.Laws as T′
 use Rattle.print.proofs.Thin.{Printed, thinK, thinEnded, thinClauses}
-use Rattle.print.proofs.held.start as start
-use Rattle.print.proofs.held.end as end
+use Rattle.print.proofs.line_writer.begin as begin
+use Rattle.print.proofs.line_writer.end as end
 
 -- a writer may be stored in a local
 pub line-typed : (κ : Lft) (h : Line) (w : Val) → Is (T.the-row (record { mir = named 0; lft = κ })) h (w ∷ []) → Holds (hasTy (T′.mir erased) w) × WT w
@@ -47,8 +47,8 @@ line-typed κ h w is =
     subst (λ (z : Val). Holds (hasTy (T′.mir erased) z) × WT z) (sym (ap only (LL.tells (T.the-type α) (T′.the-laws α) h _ is))) (tt, ((tt, (record { fits = fields .0 .0 .1 .0 }, tt)), (record { fits = fields .1 .0 .1 }, tt)))
 
 module _ {M : Type 1} (𝓤 : URA M) (H : Heap 𝓤) (A : Atoms 𝓤) (mem : Memory → SProp 𝓤) (run : Routine → Fun 𝓤) where
-  abbrev pub startK : Contract 𝓤
-  startK = tripleOf 𝓤 H A start.signature (start.spec 𝓤 H A mem run)
+  abbrev pub beginK : Contract 𝓤
+  beginK = tripleOf 𝓤 H A begin.signature (begin.spec 𝓤 H A mem run)
 
   abbrev pub endK : Contract 𝓤
   endK = tripleOf 𝓤 H A end.signature (end.spec 𝓤 H A mem run)
@@ -91,12 +91,12 @@ module _ {M : Type 1} {𝓤 : URA M} {H : Heap 𝓤} {A : Atoms 𝓤} (W : Given
     abbrev pub made : RefT (List ℕ) → ℕ → Line
     made x n = record { out = x; at = n }
 
-    abbrev pub to-start : (x : RefT (List ℕ)) (n : ℕ) → startK 𝓤 H A mem run .Ghost
-    to-start x n = (((κ, tt), (q, tt), tt, (x, (n, tt)), (sliceVal (x .ptr) (length (x .now)) ∷ [], (vint w64 n ∷ [], tt))), tt)
+    abbrev pub to-begin : (x : RefT (List ℕ)) (n : ℕ) → beginK 𝓤 H A mem run .Ghost
+    to-begin x n = (((κ, tt), (q, tt), tt, (x, (n, tt)), (sliceVal (x .ptr) (length (x .now)) ∷ [], (vint w64 n ∷ [], tt))), tt)
 
-    goes-start : (x : RefT (List ℕ)) (n : ℕ) → n < 2 ^ 64
-        → ent 𝓤 (sep 𝓤 (sep 𝓤 (A .lft κ q) (sem 𝓤 H A ftrue)) (sem 𝓤 H A (MutSlice (named 0) κ u8 .own x (sliceVal (x .ptr) (length (x .now)) ∷ [])))) (startK 𝓤 H A mem run .pre (to-start x n))
-    goes-start x n fits =
+    goes-begin : (x : RefT (List ℕ)) (n : ℕ) → n < 2 ^ 64
+        → ent 𝓤 (sep 𝓤 (sep 𝓤 (A .lft κ q) (sem 𝓤 H A ftrue)) (sem 𝓤 H A (MutSlice (named 0) κ u8 .own x (sliceVal (x .ptr) (length (x .now)) ∷ [])))) (beginK 𝓤 H A mem run .pre (to-begin x n))
+    goes-begin x n fits =
         qed W (tok ∷ ‵ (MutSlice (named 0) κ u8 .own x (sliceVal (x .ptr) (length (x .now)) ∷ [])) ∷ []) ∵
         nothing ! $ move ! (1 ∷ []) $ nothing ! $ owned ! usize (Is usize) (uint-makes 𝓤 H A W w64) n _ (refl, fits) $ fjoin ! $ move ! (3 ∷ 0 ∷ []) $ fjoin ! $ move ! (1 ∷ 0 ∷ []) $ join ! $ frame ! $ done !
 
@@ -106,20 +106,20 @@ module _ {M : Type 1} {𝓤 : URA M} {H : Heap 𝓤} {A : Atoms 𝓤} (W : Given
     goes-end : (h : Line) (w : Val) → ent 𝓤 (sep 𝓤 (sep 𝓤 (A .lft κ q) (sem 𝓤 H A ftrue)) (sem 𝓤 H A (T.the-row α .own h (w ∷ [])))) (endK 𝓤 H A mem run .pre (to-end h w))
     goes-end h w = qed W (tok ∷ ‵ (T.the-row α .own h (w ∷ [])) ∷ []) ∵ nothing ! $ move ! (2 ∷ 0 ∷ []) $ fjoin ! $ move ! (1 ∷ 0 ∷ []) $ join ! $ frame ! $ done !
 
-    start-of : (x : RefT (List ℕ)) (n : ℕ) (r : Line) → ent 𝓤 (ensured 𝓤 H A start.ended (start.clauses 𝓤 H A mem run) (κ, tt) (x, (n, tt)) tt r) (fact 𝓤 ((r .out ≡ x) × (r .at ≡ n)))
-    start-of x n r = exE 𝓤 _ (λ ws. snd∗ 𝓤 (sem 𝓤 H A (lasts start.ended (κ, tt) (x, (n, tt)) ws)) (fact 𝓤 ((r .out ≡ x) × (r .at ≡ n))))
+    begin-of : (x : RefT (List ℕ)) (n : ℕ) (r : Line) → ent 𝓤 (ensured 𝓤 H A begin.ended (begin.clauses 𝓤 H A mem run) (κ, tt) (x, (n, tt)) tt r) (fact 𝓤 ((r .out ≡ x) × (r .at ≡ n)))
+    begin-of x n r = exE 𝓤 _ (λ ws. snd∗ 𝓤 (sem 𝓤 H A (lasts begin.ended (κ, tt) (x, (n, tt)) ws)) (fact 𝓤 ((r .out ≡ x) × (r .at ≡ n))))
 
     module _ {K : Type 0} {Γ : List (Item 𝓤)} {E : Env 𝓤 H} {C : Calls 𝓤 H} {Λ : Loops 𝓤 H} {p : Post 𝓤 H} {f : Name} {xs : List Operand} {d : Place} {rest : Body} where
-      -- `start`: from the slice to a writer
-      pub starts : K → FmC 𝓤 H (W .laws) C → Triple 𝓤 (C f) (startK 𝓤 H A mem run) → (x : RefT (List ℕ)) (n : ℕ) → n < 2 ^ 64
-          → Opds K W (raw (startK 𝓤 H A mem run .pre (to-start x n)) ∷ Γ) E xs (sliceVal (x .ptr) (length (x .now)) ∷ vint w64 n ∷ [])
+      -- `begin`: from the slice to a writer
+      pub begins : K → FmC 𝓤 H (W .laws) C → Triple 𝓤 (C f) (beginK 𝓤 H A mem run) → (x : RefT (List ℕ)) (n : ℕ) → n < 2 ^ 64
+          → Opds K W (raw (beginK 𝓤 H A mem run .pre (to-begin x n)) ∷ Γ) E xs (sliceVal (x .ptr) (length (x .now)) ∷ vint w64 n ∷ [])
           → ((w : Val) → Is (T.the-row α) (made x n) (w ∷ []) → Seq K W (tok ∷ ‵ (T.the-row α .own (made x n) (w ∷ [])) ∷ Γ) (lands C Λ E d w rest p))
           → Seq K W (tok ∷ ‵ (MutSlice (named 0) κ u8 .own x (sliceVal (x .ptr) (length (x .now)) ∷ [])) ∷ Γ) (runs C Λ E (seq (call f xs d) rest) p)
-      starts t fm known x n fits os k =
-          use2 W (raw (startK 𝓤 H A mem run .pre (to-start x n))) (goes-start x n fits) $
-          calls-at t fm (startK 𝓤 H A mem run) known (to-start x n) os (λ w.
-          use1 W (later (some (λ (r : Line). (tok ⊛ ‵ (T.the-row α .own r (w ∷ []))) ⊛ raw (ensured 𝓤 H A start.ended (start.clauses 𝓤 H A mem run) (κ, tt) (x, (n, tt)) tt r)))) (id⊢ 𝓤 _) $ await t tt $ pick t (λ r.
-          split t $ move t (1 ∷ []) $ use1 W (raw (fact 𝓤 ((r .out ≡ x) × (r .at ≡ n)))) (start-of x n r) $ heard t ((r .out ≡ x) × (r .at ≡ n)) (λ e.
+      begins t fm known x n fits os k =
+          use2 W (raw (beginK 𝓤 H A mem run .pre (to-begin x n))) (goes-begin x n fits) $
+          calls-at t fm (beginK 𝓤 H A mem run) known (to-begin x n) os (λ w.
+          use1 W (later (some (λ (r : Line). (tok ⊛ ‵ (T.the-row α .own r (w ∷ []))) ⊛ raw (ensured 𝓤 H A begin.ended (begin.clauses 𝓤 H A mem run) (κ, tt) (x, (n, tt)) tt r)))) (id⊢ 𝓤 _) $ await t tt $ pick t (λ r.
+          split t $ move t (1 ∷ []) $ use1 W (raw (fact 𝓤 ((r .out ≡ x) × (r .at ≡ n)))) (begin-of x n r) $ heard t ((r .out ≡ x) × (r .at ≡ n)) (λ e.
           split t $ move t (1 ∷ []) $ rewrite t 0 (λ (l : Line). ‵ (T.the-row α .own l (w ∷ []))) (λ i. record { out = e .0 i; at = e .1 i }) refl $
           peeks t (T.the-row α) (Is (T.the-row α)) (shows 𝓤 H A (T.the-row α)) (made x n) (w ∷ []) (λ is. move t (1 ∷ 0 ∷ []) $ k w is))))
 

@@ -5,16 +5,15 @@ use Prim.Native.Nat.{ℕ, _-_, _≤_}
 use native.Mathlib.Omega.{arith}
 use lib.ListN.{take, drop}
 use Rattle.print.specs.Words.{wordBytes}
-use Rattle.print.specs.Row.{from, to}
+use Rattle.print.specs.Spans.{from, to}
 use Rattle.print.specs.declared.words.Word.{Word}
-use Rattle.print.specs.declared.words.Word.the-variants.{Nothing, AcceptedCells, Ticks, Room, Refused, Stream, Pair, Slash, Blank, Hops, End}
+use Rattle.print.specs.declared.words.Word.the-variants.{AcceptedCells, Ticks, Room, Refused, Stream, Pair, Slash, Blank, Hops, End}
 
 -- the byte string in `put_word`
 abbrev pub row : List ℕ
 row = 97 ∷ 99 ∷ 99 ∷ 101 ∷ 112 ∷ 116 ∷ 101 ∷ 100 ∷ 32 ∷ 99 ∷ 101 ∷ 108 ∷ 108 ∷ 115 ∷ 32 ∷ 32 ∷ 116 ∷ 105 ∷ 99 ∷ 107 ∷ 115 ∷ 32 ∷ 32 ∷ 114 ∷ 111 ∷ 111 ∷ 109 ∷ 32 ∷ 114 ∷ 101 ∷ 102 ∷ 117 ∷ 115 ∷ 101 ∷ 100 ∷ 32 ∷ 32 ∷ 115 ∷ 116 ∷ 114 ∷ 101 ∷ 97 ∷ 109 ∷ 32 ∷ 32 ∷ 112 ∷ 97 ∷ 105 ∷ 114 ∷ 32 ∷ 32 ∷ 47 ∷ 32 ∷ 32 ∷ 104 ∷ 111 ∷ 112 ∷ 115 ∷ 32 ∷ 10 ∷ []
 
 pub within : (w : Word) → (from w ≤ to w) × (to w ≤ 60)
-within Nothing = omega arith
 within AcceptedCells = omega arith
 within Ticks = omega arith
 within Room = omega arith
@@ -28,7 +27,6 @@ within End = omega arith
 
 cut : (w : Word) → take (to w - from w) (drop (from w) row) ≡ wordBytes w
 unfolding wordBytes
-cut Nothing = refl
 cut AcceptedCells = refl
 cut Ticks = refl
 cut Room = refl

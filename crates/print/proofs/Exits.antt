@@ -13,8 +13,8 @@ use denote.Exit.{Kept, yes, no}
 use denote.Signature.{Slot, plain, mutSlice, mutSliceOf, namedLft}
 use denote.Signature.Struct.{structAt}
 use denote.Triple.Walked.{Stay, Fields, stay-none, stay-slice, stay-dropped, stay-struct-at, stay-declared, Goes, FieldsGo, goes-none, goes-slice, goes-spent-slice, goes-struct-at, goes-declared}
-use Rattle.print.specs.declared.held.Line.{Line}
-use Rattle.print.proofs.held.Line as T
+use Rattle.print.specs.declared.line_writer.Line.{Line}
+use Rattle.print.proofs.line_writer.Line as T
 
 -- the fields, as places of a signature of one lifetime
 abbrev slots : List (Slot 1)

@@ -1,4 +1,3 @@
-pub mod Putting
 pub mod Numerals
 pub mod Cutting
 pub mod Again
@@ -6,4 +5,4 @@ pub mod Exits
 pub mod Thin
 pub mod Values
 pub mod Calls
-pub mod Two
+pub mod Chain

@@ -1,5 +1,5 @@
 -- Laws of decimal numbers: how they are put digit by digit, that they fit into 21 bytes, and that they say the number.
-use mathlib.Core.Path.{_≡_, refl, ap, _∙_}
+use mathlib.Core.Path.{_≡_, refl, sym, ap, _∙_}
 use mathlib.Core.Bool.{Bool, true, false}
 use mathlib.Core.List.{List, [], _∷_, _++_}
 use Prim.Native.Nat.{ℕ, zero, suc, _+_, _*_, _-_, _/_, _%_, _^_, _≤_, _<_}
@@ -11,10 +11,12 @@ use lib.Dec.{ltb}
 use lib.IntN.{ℤ, pos, negsuc, natAbs}
 use lib.ListN.{length, set, length-append}
 use lib.Signed.{ltZ}
-use Rattle.print.specs.Put.{Fits, Put}
+use mir.Syntax.{w64}
+use mir.Val.{SFits}
+use Rattle.buffer.specs.Put.{Fits, Put}
 use Rattle.print.specs.Decimal.{leading, digits, decimal}
-use Rattle.print.proofs.Putting.{one, place, and-then, first, left, put-as, fits-as}
-use Rattle.space.proofs.Machine.{never}
+use Rattle.buffer.proofs.Putting.{one, place, and-then, first, left, put-as, fits-as}
+use Rattle.space.proofs.Machine.{never, held, back}
 
 -- ---- by the tests of `put_digits`
 pub digits-none : (f n : ℕ) → f ≡ 0 → digits f n ≡ []
@@ -55,7 +57,7 @@ module _ {s : List ℕ} {at : ℕ} (f n : ℕ) (some : f ≡ 0 → ⊥) (room : 
       pub last-put : Put s at (digits f n) (k + 1) (set t k (48 + n % 10))
       last-put = put-as (digits-more f n some large) (and-then p leading-room (one t k (48 + n % 10) last-place))
 
--- ---- by the test of `put_number`
+-- ---- by the test of `put_signed`
 pub decimal-minus : (x : ℤ) → ltZ x (pos 0) ≡ true → decimal x ≡ (45 ∷ []) ++ digits 20 (natAbs x)
 unfolding decimal
 decimal-minus (pos n) t = absurd (omega (arith, ltb-true))
@@ -65,6 +67,10 @@ pub decimal-plus : (x : ℤ) → ltZ x (pos 0) ≡ false → decimal x ≡ digit
 unfolding decimal
 decimal-plus (pos n) t = refl
 decimal-plus (negsuc n) t = never t
+
+-- a signed number that is read back from its bits
+pub decimal-held : {x : ℤ} → SFits w64 x → decimal x ≡ decimal (held x)
+decimal-held size = ap decimal (sym (back size))
 
 -- ---- lengths
 digits-length : (f n : ℕ) → length (digits f n) ≤ f

@@ -37,11 +37,11 @@ use denote.Triple.Walked.{says, needs, Stays, stay-none, walkOf, goes-none, Walk
 use denote.Exit.{Last, left, yes, no}
 use denote.Signature.{Signature, plain, namedLft}
 use denote.Signature.Struct.{inStruct, makes}
-use Rattle.print.specs.Put.{Fits, Put}
-use Rattle.print.specs.Held.{wrote}
-use Rattle.print.specs.declared.held.Line.{Line}
-use Rattle.print.proofs.held.Line as T
-use Rattle.print.proofs.held.Line.Laws as T′
+use Rattle.buffer.specs.Put.{Fits, Put}
+use Rattle.print.specs.LineWriter.{wrote}
+use Rattle.print.specs.declared.line_writer.Line.{Line}
+use Rattle.print.proofs.line_writer.Line as T
+use Rattle.print.proofs.line_writer.Line.Laws as T′
 use Rattle.print.proofs.Exits.{line-spent, line-spent-goes}
 use Rattle.print.proofs.Again.{LentAgain, lends-again, comes-back}
 

@@ -4,6 +4,8 @@ use mathlib.Core.List.{List, [], _∷_, _++_}
 use Prim.Native.Nat.{ℕ, zero, suc, _+_, _/_, _%_}
 use lib.Dec.{ltb}
 use lib.IntN.{ℤ, pos, negsuc}
+use Rattle.print.specs.declared.numbers.Number.{Number}
+use Rattle.print.specs.declared.numbers.Number.the-variants.{Count, Signed}
 
 -- the digits before the last one, of which a number below 10 has none
 abbrev pub leading : Bool → List ℕ → List ℕ
@@ -19,3 +21,8 @@ digits (suc f) n = leading (ltb n 10) (digits f (n / 10)) ++ ((48 + n % 10) ∷ 
 unfoldable pub decimal : ℤ → List ℕ
 decimal (pos n) = digits 20 n
 decimal (negsuc n) = 45 ∷ digits 20 (suc n)
+
+-- the value of a number that is printed
+abbrev pub valueOf : Number → ℤ
+valueOf (Count n) = pos n
+valueOf (Signed z) = z

@@ -1,5 +1,4 @@
-pub mod Put
 pub mod Decimal
 pub mod Words
-pub mod Row
-pub mod Held
+pub mod Spans
+pub mod LineWriter

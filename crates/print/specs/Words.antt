@@ -2,11 +2,10 @@
 use mathlib.Core.List.{List, [], _∷_}
 use Prim.Native.Nat.{ℕ}
 use Rattle.print.specs.declared.words.Word.{Word}
-use Rattle.print.specs.declared.words.Word.the-variants.{Nothing, AcceptedCells, Ticks, Room, Refused, Stream, Pair, Slash, Blank, Hops, End}
+use Rattle.print.specs.declared.words.Word.the-variants.{AcceptedCells, Ticks, Room, Refused, Stream, Pair, Slash, Blank, Hops, End}
 
 -- `accepted cells `, ` ticks `, ` room `, `refused `, ` stream `, ` pair `, ` / `, one blank, ` hops `, a newline
 unfoldable pub wordBytes : Word → List ℕ
-wordBytes Nothing = []
 wordBytes AcceptedCells = 97 ∷ 99 ∷ 99 ∷ 101 ∷ 112 ∷ 116 ∷ 101 ∷ 100 ∷ 32 ∷ 99 ∷ 101 ∷ 108 ∷ 108 ∷ 115 ∷ 32 ∷ []
 wordBytes Ticks = 32 ∷ 116 ∷ 105 ∷ 99 ∷ 107 ∷ 115 ∷ 32 ∷ []
 wordBytes Room = 32 ∷ 114 ∷ 111 ∷ 111 ∷ 109 ∷ 32 ∷ []

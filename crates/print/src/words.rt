@@ -2,13 +2,12 @@
 ghost use mathlib.Core.Path.{_≡_};
 ghost use Prim.Native.Nat.{_≤_, _-_};
 ghost use lib.ListN.{length, take, drop};
-ghost use Rattle.print.specs.Put.{Fits, Put};
+ghost use Rattle.buffer.specs.Put.{Fits, Put};
 ghost use Rattle.print.specs.Words.{wordBytes};
-ghost use Rattle.print.specs.Row.{from, to};
+ghost use Rattle.print.specs.Spans.{from, to};
 
 // Each with the blanks about it.
 pub enum Word {
-    Nothing,
     AcceptedCells,
     Ticks,
     Room,
@@ -21,12 +20,11 @@ pub enum Word {
     End,
 }
 
-// Where a word starts in the row of them all. (A match to eleven byte strings would be far longer to prove than one string and two tables.)
+// Where a word starts in the row of them all. (A match to ten byte strings would be far longer to prove than one string and two tables.)
 fn from_of(w: Word) -> usize
     ensures { λ r. ⌜ r ≡ from w ⌝ }
 {
     match w {
-        Word::Nothing => 0,
         Word::AcceptedCells => 0,
         Word::Ticks => 15,
         Word::Room => 22,
@@ -45,7 +43,6 @@ fn to_of(w: Word) -> usize
     ensures { λ r. ⌜ r ≡ to w ⌝ }
 {
     match w {
-        Word::Nothing => 0,
         Word::AcceptedCells => 15,
         Word::Ticks => 22,
         Word::Room => 28,
@@ -59,26 +56,13 @@ fn to_of(w: Word) -> usize
     }
 }
 
-// All of bytes, and the next place.
-fn put_bytes(out: &mut [u8], at: usize, bytes: &[u8]) -> usize
-    requires { ⌜ Fits (now out) at (now bytes) ⌝ }
-    ensures { λ r. ⌜ Put (now (out .entry)) at (now (bytes .entry)) r (now (out .exit)) ⌝ }
-{
-    let mut i = 0;
-    while i < bytes.len() {
-        out[at + i] = bytes[i];
-        i += 1;
-    }
-    at + i
-}
-
 // A part of the row. (It is a parameter, since a part of a byte string is not covered where the string is made.)
 fn put_part(out: &mut [u8], at: usize, row: &[u8], from: usize, to: usize) -> usize
     requires { ⌜ (from ≤ to) × (to ≤ length (now row)) ⌝ }
     requires { ⌜ Fits (now out) at (take (to - from) (drop from (now row))) ⌝ }
     ensures { λ r. ⌜ Put (now (out .entry)) at (take (to - from) (drop from (now (row .entry)))) r (now (out .exit)) ⌝ }
 {
-    put_bytes(out, at, &row[from..to])
+    buffer::put_bytes(out, at, &row[from..to])
 }
 
 // A word, and the next place.

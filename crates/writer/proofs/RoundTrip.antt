@@ -14,7 +14,7 @@ use Rattle.reader.specs.declared.Reading.the-variants as Reading
 use Rattle.reader.proofs.Theorems.{reads-unique}
 use Rattle.writer.specs.declared.Wrote.{Wrote}
 use Rattle.writer.specs.declared.Wrote.the-variants.{Total, Refused, Short}
-use Rattle.file.specs.Files.{over}
+use Rattle.buffer.specs.Put.{putAt}
 use Rattle.writer.specs.Writing.{Writes}
 use Rattle.writer.proofs.Theorems.{written}
 
@@ -23,15 +23,15 @@ pub written-read : (j : Job) (before after : List ℕ) (t : ℕ) (r : Reading) �
 written-read j before after t r w reads = reads-unique (take t after) r (Reading.Job j) reads (w .0, sym (written j before after t w .0))
 
 -- writing what was read gives the bytes, wherever there is room for them
-pub read-written : (s : List ℕ) (j : Job) (before after : List ℕ) (r : Wrote) → Reads s (Reading.Job j) → length s ≤ length before → Writes j before after r → (r ≡ Total (length s)) × (after ≡ over s before)
+pub read-written : (s : List ℕ) (j : Job) (before after : List ℕ) (r : Wrote) → Reads s (Reading.Job j) → length s ≤ length before → Writes j before after r → (r ≡ Total (length s)) × (after ≡ putAt before 0 s)
 read-written s j before after r reads room w = by r w
   where
     total : length s ≡ length (fileOf j)
     total = ap length (sym (reads .1))
 
-    by : (r : Wrote) → Writes j before after r → (r ≡ Total (length s)) × (after ≡ over s before)
+    by : (r : Wrote) → Writes j before after r → (r ≡ Total (length s)) × (after ≡ putAt before 0 s)
     by (Total t) w =
-        (ap Total (w .1 ∙ sym (file-length j (reads .0 .shaped)) ∙ sym total), w .3 ∙ ap (λ (file : List ℕ). over file before) (reads .1))
+        (ap Total (w .1 ∙ sym (file-length j (reads .0 .shaped)) ∙ sym total), w .3 ∙ ap (putAt before 0) (reads .1))
     by (Refused n) w = absurd (w .1 (none-refuses j n (reads .0) (w .0)))
     by (Short t) w = let e = file-length j (reads .0 .shaped) in let h = total in absurd (omega arith)
 

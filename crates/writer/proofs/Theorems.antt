@@ -9,6 +9,7 @@ use Rattle.job.specs.declared.Job.{Job}
 use Rattle.job.specs.Limits.{limits}
 use Rattle.job.proofs.Refusing.{first-unique, none-refuses}
 use Rattle.layout.specs.Layout.{fileOf}
+use Rattle.buffer.proofs.Putting.{at-front}
 use Rattle.layout.proofs.Injective.{file-length}
 use Rattle.writer.specs.declared.Wrote.{Wrote}
 use Rattle.writer.specs.declared.Wrote.the-variants.{Total, Refused, Short}
@@ -30,10 +31,11 @@ writes-unique j before after after′ (Short t) (Short u) p q = (ap Short (p .1 
 -- after a total t the first t bytes are the file, the others are as they were, and there are as many as before
 pub written : (j : Job) (before after : List ℕ) (t : ℕ) → Writes j before after (Total t) → (take t after ≡ fileOf j) × (drop t after ≡ drop t before) × (length after ≡ length before)
 written j before after t w =
-    let e : length (fileOf j) ≡ t = file-length j (w .0 .shaped) ∙ sym (w .1) in (
-      ap (take t) (w .3) ∙ take-at (fileOf j) _ t e,
-      ap (drop t) (w .3) ∙ drop-at (fileOf j) _ t e ∙ ap (λ (k : ℕ). drop k before) e,
-      ap length (w .3) ∙ simp (length-append, length-drop) (omega arith),
+    let e : length (fileOf j) ≡ t = file-length j (w .0 .shaped) ∙ sym (w .1) in
+    let f = w .3 ∙ at-front before (fileOf j) in (
+      ap (take t) f ∙ take-at (fileOf j) _ t e,
+      ap (drop t) f ∙ drop-at (fileOf j) _ t e ∙ ap (λ (k : ℕ). drop k before) e,
+      ap length f ∙ simp (length-append, length-drop) (omega arith),
     )
 
 -- any other reply leaves them as they were

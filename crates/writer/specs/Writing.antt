@@ -6,15 +6,19 @@ use lib.ListN.{length}
 use Rattle.job.specs.declared.Job.{Job}
 use Rattle.job.specs.Refusals.{First}
 use Rattle.job.specs.Limits.{limits, Acceptable}
-use Rattle.layout.specs.Layout.{fileOf}
-use Rattle.file.specs.Files.{totalFor, over}
+use Rattle.layout.specs.Layout.{totalOf, fileOf}
+use Rattle.buffer.specs.Put.{putAt}
 use Rattle.writer.specs.declared.Answer.{Answer}
 use Rattle.writer.specs.declared.Wrote.{Wrote}
 use Rattle.writer.specs.declared.Wrote.the-variants.{Total, Refused, Short}
 
+-- the total of the job's file
+abbrev pub totalFor : Job → ℕ
+totalFor j = totalOf 1 (j .n) (j .k) (j .m)
+
 -- what a reply says of the job and of the lent bytes, before and after
 abbrev pub Writes : Job → List ℕ → List ℕ → Wrote → Type 0
-Writes j before after (Total t) = Acceptable j × (t ≡ totalFor j) × (t ≤ length before) × (after ≡ over (fileOf j) before)
+Writes j before after (Total t) = Acceptable j × (t ≡ totalFor j) × (t ≤ length before) × (after ≡ putAt before 0 (fileOf j))
 Writes j before after (Refused r) = First (limits j) r × (r ≡ 0 → ⊥) × (after ≡ before)
 Writes j before after (Short t) = Acceptable j × (t ≡ totalFor j) × (length before < t) × (after ≡ before)
 

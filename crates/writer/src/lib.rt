@@ -47,6 +47,5 @@ pub fn write(buf: &mut [u8], j: Job) -> Wrote
     if buf.len() < total {
         return Wrote::Short(total);
     }
-    file::put_job(buf, j);
-    Wrote::Total(total)
+    Wrote::Total(file::put_job(buf, j))
 }

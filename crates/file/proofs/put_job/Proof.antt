@@ -1,49 +1,68 @@
--- Each part is put where the last one ends.
-use mathlib.Core.Path.{_≡_, sym}
+-- Each part is put where the last one ends: together they are the file.
 use mathlib.Core.List.{List, _++_}
-use native.Mathlib.Omega.{arith}
 use Prim.Native.Nat.{ℕ}
-use denote.Ref.{now}
-use lib.ListN.{length, length-append}
 use borrow.Author.Needs.{needs}
-use Rattle.layout.specs.Layout.{headerOf, boxBytes, streamsBytes, matrixBytes, fileOf, streamsFrom, matricesFrom}
-use Rattle.file.specs.Files.{over}
-use Rattle.layout.proofs.Injective.{header-length, box-length, streams-length}
-use Rattle.file.proofs.Laying.{puts-next}
+use denote.Ref.{now}
+use Rattle.job.specs.declared.Job.{Job}
+use Rattle.layout.specs.Layout.{headerOf, boxBytes, streamsBytes, matrixBytes, fileOf}
+use Rattle.buffer.specs.Put.{Fits, Put}
+use Rattle.buffer.proofs.Putting.{and-then, first, left}
 use Rattle.file.proofs.put_job.Statement.{statement}
 use Rattle.file.proofs.put_job.Tie as tie
 
-wide-requires : tie.Need-wide-requires
-wide-requires c κs = search needs
+-- the file's front, up to each part
+abbrev header : Job → List ℕ
+header j = headerOf 1 (j .n) (j .k) (j .m)
 
-wide-requires-2 : tie.Need-wide-requires-2
-wide-requires-2 c κs = search needs
+abbrev sides : Job → List ℕ
+sides j = header j ++ boxBytes 1 j
+
+abbrev streams : Job → List ℕ
+streams j = sides j ++ streamsBytes 1 j
+
+-- the moments of the walk
+abbrev start : tie.After-put-header → tie.Start
+start c = c .before .before .before
+
+abbrev headed : tie.After-put-box → tie.After-put-header
+headed c = c .before .before .before .before
+
+abbrev boxed : tie.After-put-streams → tie.After-put-box
+boxed c = c .before .before .before .before
+
+-- the room of each front
+streams-room : (c : tie.Start) → Fits (now (c .args .buf)) 0 (streams (c .args .j))
+unfolding fileOf
+streams-room c = first (streams (c .args .j)) (matrixBytes 1 (c .args .j)) (c .pre .1)
+
+box-room : (c : tie.Start) → Fits (now (c .args .buf)) 0 (sides (c .args .j))
+box-room c = first (sides (c .args .j)) (streamsBytes 1 (c .args .j)) (streams-room c)
+
+header-room : (c : tie.Start) → Fits (now (c .args .buf)) 0 (header (c .args .j))
+header-room c = first (header (c .args .j)) (boxBytes 1 (c .args .j)) (box-room c)
+
+-- and what is put of it
+box-put : (c : tie.After-put-box) → let s = start (headed c) in Put (now (s .args .buf)) 0 (sides (s .args .j)) (c .put-box .result) (c .put-box .last .0)
+box-put c = and-then (headed c .put-header .ensures) (header-room (start (headed c))) (c .put-box .ensures)
+
+streams-put : (c : tie.After-put-streams) → let s = start (headed (boxed c)) in Put (now (s .args .buf)) 0 (streams (s .args .j)) (c .put-streams .result) (c .put-streams .last .0)
+streams-put c = and-then (box-put (boxed c)) (box-room (start (headed (boxed c)))) (c .put-streams .ensures)
 
 put-header-requires : tie.Need-put-header-requires
-put-header-requires c κs = search needs
+put-header-requires c κs = (c .before .before .pre .0, header-room (c .before .before))
 
 put-box-requires : tie.Need-put-box-requires
-put-box-requires c κs = search needs
-
-streams-from-requires : tie.Need-streams-from-requires
-streams-from-requires c κs = search needs
+put-box-requires c κs = let h = c .before .before .before in (start h .pre .0, left _ _ (box-room (start h)) (h .put-header .ensures))
 
 put-streams-requires : tie.Need-put-streams-requires
-put-streams-requires c κs = search needs
-
-matrices-from-requires : tie.Need-matrices-from-requires
-matrices-from-requires c κs = search needs
+put-streams-requires c κs = let b = c .before .before .before in (start (headed b) .pre .0, left _ _ (streams-room (start (headed b))) (box-put b))
 
 put-matrices-requires : tie.Need-put-matrices-requires
+unfolding fileOf
 put-matrices-requires c κs =
-    let streams = c .before .before .before .before in
-    let box = streams .before .before .before .before .before in
-    let header = box .before .before .before .before in
-    let start = header .before .before .before .before .before in (
-      start .pre .0,
-      rw (c .matrices-from .ensures, header .before .before .before .wide .ensures, header .before .before .wide2 .ensures)
-          (omega (arith, start .pre .1, streams .put-streams .kept .0, box .put-box .kept .0, header .put-header .kept .0)),
-    )
+    let p = c .before .before .before in
+    let s = start (headed (boxed p)) in
+    (s .pre .0, left (streams (s .args .j)) _ (s .pre .1) (streams-put p))
 
 same-length : tie.Need-same-length
 same-length c = search needs
@@ -51,27 +70,9 @@ same-length c = search needs
 returns : tie.Need-returns
 unfolding fileOf
 returns c =
-    let rows = c .before .before in
-    let streams = rows .before .before .before .before .before in
-    let box = streams .before .before .before .before .before in
-    let header = box .before .before .before .before in
-    let start = header .before .before .before .before .before in
-    let j = start .args .j in
-    let s = start .pre .0 .shaped in
-    let B : List ℕ = now (start .args .buf) in
-    let H : List ℕ = headerOf 1 (j .n) (j .k) (j .m) in
-    let X : List ℕ = boxBytes 1 j in
-    let S : List ℕ = streamsBytes 1 j in
-    let h : length H ≡ 16 = header-length (j .n) (j .k) (j .m) in
-    let x : length (H ++ X) ≡ streamsFrom 1 (j .n) = rw (length-append, h, box-length j s) (omega arith) in
-    let y : length (H ++ X ++ S) ≡ matricesFrom 1 (j .n) (j .m) = rw (length-append (H ++ X) S, x, streams-length j s) (omega arith) in
-    let n = header .before .before .before .wide .ensures in
-    let m = header .before .before .wide2 .ensures in
-    let p : streams .before .streams-from .result ≡ length (H ++ X) = rw (streams .before .streams-from .ensures, n) (sym x) in
-    let q : rows .before .matrices-from .result ≡ length (H ++ X ++ S) = rw (rows .before .matrices-from .ensures, n, m) (sym y) in
-    let e : box .put-box .last .0 ≡ over (H ++ X) B = puts-next B H X _ _ 16 (header .put-header .ensures) (sym h) (box .put-box .ensures) in
-    let f : streams .put-streams .last .0 ≡ over (H ++ X ++ S) B = puts-next B (H ++ X) S _ _ _ e p (streams .put-streams .ensures) in
-    puts-next B (H ++ X ++ S) (matrixBytes 1 j) _ _ _ f q (rows .put-matrices .ensures)
+    let m = c .before .before in
+    let p = m .before .before .before .before in
+    and-then (streams-put p) (streams-room (start (headed (boxed p)))) (m .put-matrices .ensures)
 
 pub put-job-spec : {M : Type 1} → statement M
-put-job-spec = tie.close (tie.spec wide-requires wide-requires-2 put-header-requires put-box-requires streams-from-requires put-streams-requires matrices-from-requires put-matrices-requires same-length returns)
+put-job-spec = tie.close (tie.spec put-header-requires put-box-requires put-streams-requires put-matrices-requires same-length returns)

@@ -29,8 +29,11 @@ byte-of-requires-4 c κs = search needs
 
 returns : tie.Need-returns
 returns c =
-    let p = c .before .before .before .before .before .before .before .before .pre in
-    four (byte (p .x0) (c .before .before .before .before .before .before .byte-of .ensures)) (byte (p .x1) (c .before .before .before .before .byte-of2 .ensures)) (byte (p .x2) (c .before .before .byte-of3 .ensures)) (byte (p .x3) (c .byte-of4 .ensures))
+    let third = c .before .before in
+    let second = third .before .before in
+    let first = second .before .before in
+    let p = first .before .before .pre in
+    four (byte (p .x0) (first .byte-of .ensures)) (byte (p .x1) (second .byte-of2 .ensures)) (byte (p .x2) (third .byte-of3 .ensures)) (byte (p .x3) (c .byte-of4 .ensures))
 
 pub vector-bytes-spec : {M : Type 1} → statement M
 vector-bytes-spec = tie.close (tie.spec byte-of-requires byte-of-requires-2 byte-of-requires-3 byte-of-requires-4 returns)

@@ -1,25 +1,40 @@
+-- A buffer that is long enough holds every line; the line is its first word and number, what is said past them, and the newline.
 use mathlib.Core.Path.{refl}
 use native.Mathlib.Omega.{arith}
-use Rattle.line.proofs.Whole.{fields-room, close-room, line-written, line-inside}
 use borrow.Author.Needs.{needs}
+use Rattle.buffer.proofs.Putting.{put-as, fits-as}
+use Rattle.line.proofs.Whole.{line-as, line-room, line-written, line-inside}
 use Rattle.line.proofs.write_line.Statement.{statement}
 use Rattle.line.proofs.write_line.Tie as tie
 
 returns : tie.Need-returns
 returns c = let h = c .if1 .taken in (record { written = λ long. absurd (omega arith); short = λ short. (refl, refl) }, omega arith)
 
-put-fields-requires : tie.Need-put-fields-requires
-put-fields-requires c κs = fields-room _ _ (c .before .if1 .left)
+lead-of-requires : tie.Need-lead-of-requires
+lead-of-requires c κs = search needs
 
-put-close-requires : tie.Need-put-close-requires
-put-close-requires c κs = close-room _ _ (c .before .before .before .before .before .if1 .left) (c .before .before .before .put-fields .ensures)
+first-of-requires : tie.Need-first-of-requires
+first-of-requires c κs = search needs
+
+put-line-requires : tie.Need-put-line-requires
+put-line-requires c κs =
+    let word = c .before in
+    let long = word .before .before in
+    let a = long .before .before .args in
+    fits-as (line-as (a .n) (a .v) (word .lead-of .ensures) (c .first-of .ensures)) (line-room (a .n) (a .v) (long .if1 .left))
 
 same-length : tie.Need-same-length
 same-length c = search needs
 
 returns-2 : tie.Need-returns-2
-returns-2 c = (line-written _ _ (c .before .before .before .before .before .before .before .before .if1 .left) (c .before .before .before .before .before .before .put-fields .ensures) (c .before .before .put-close .ensures), line-inside _ _ (c .before .before .before .before .before .before .before .before .if1 .left) (c .before .before .before .before .before .before .put-fields .ensures) (c .before .before .put-close .ensures))
+returns-2 c =
+    let put = c .before .before in
+    let number = put .before in
+    let word = number .before in
+    let long = word .before .before in
+    let a = long .before .before .args in
+    let line = put-as (line-as (a .n) (a .v) (word .lead-of .ensures) (number .first-of .ensures)) (put .put-line .ensures) in
+    (line-written (a .n) (a .v) (long .if1 .left) line, line-inside (a .n) (a .v) (long .if1 .left) line)
 
 pub write-line-spec : {M : Type 1} → statement M
-write-line-spec =
-    tie.close (tie.spec returns put-fields-requires put-close-requires same-length returns-2)
+write-line-spec = tie.close (tie.spec returns lead-of-requires first-of-requires put-line-requires same-length returns-2)

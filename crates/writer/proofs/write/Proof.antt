@@ -1,9 +1,14 @@
 -- Nothing is put before the limits are kept and the room is there.
-use mathlib.Core.Path.{_≡_, refl}
+use mathlib.Core.Path.{refl, _∙_}
+use native.Mathlib.Nat.{zero-add}
+use native.Mathlib.Omega.{arith}
 use borrow.Author.Needs.{needs}
+use denote.Ref.{now}
 use Rattle.job.specs.Limits.{Acceptable}
 use Rattle.job.proofs.Refusing.{accepted}
-use Rattle.file.specs.Files.{totalFor}
+use Rattle.layout.specs.Layout.{fileOf}
+use Rattle.layout.proofs.Injective.{file-length}
+use Rattle.buffer.specs.Put.{Fits}
 use Rattle.writer.proofs.write.Statement.{statement}
 use Rattle.writer.proofs.write.Tie as tie
 
@@ -26,26 +31,35 @@ cast-total-of-3 c = search needs
 accept : (c : tie.Else1) → Acceptable (c .before .before .before .args .j)
 accept c = accepted _ (c .if1 .left) (c .before .number .ensures)
 
+-- the moment before the total is asked for
+abbrev limited : tie.After-total-of → tie.Else1
+limited c = c .before .before .before .before
+
 total-of-requires : tie.Need-total-of-requires
 total-of-requires c κs =
     let s = accept (c .before .before .before) .shaped in
     (s .dimensions .1, s .places .1, s .streams .1)
 
--- the total that is asked for
-total : (c : tie.After-total-of) → c .total-of .result ≡ totalFor (c .before .before .before .before .before .before .before .args .j)
-total c = c .total-of .ensures
-
 returns-2 : tie.Need-returns-2
-returns-2 c = (accept (c .before .before .before .before .before), total (c .before), c .if2 .taken, refl)
+returns-2 c = (accept (limited (c .before)), c .before .total-of .ensures, c .if2 .taken, refl)
+
+-- the file is as long as the total, and there is room for it
+room : (c : tie.Else2) → let start = limited (c .before) .before .before .before in Fits (now (start .args .buf)) 0 (fileOf (start .args .j))
+room c = let e = c .before .total-of .ensures in record { room = omega (arith, c .if2 .left, e, file-length _ (accept (limited (c .before)) .shaped)) }
 
 put-job-requires : tie.Need-put-job-requires
-put-job-requires c κs = (accept (c .before .before .before .before .before .before), rw (total (c .before .before)) at (c .before .if2 .left))
+put-job-requires c κs = (accept (limited (c .before .before)), room (c .before))
 
 same-length : tie.Need-same-length
 same-length c = search needs
 
 returns-3 : tie.Need-returns-3
-returns-3 c = (accept (c .before .before .before .before .before .before .before .before .before), total (c .before .before .before .before .before), c .before .before .before .before .if2 .left, c .before .before .put-job .ensures)
+returns-3 c =
+    let put = c .before .before in
+    let roomy = put .before .before in
+    let a = accept (limited (roomy .before)) in
+    let e = put .put-job .ensures .next ∙ zero-add _ ∙ file-length _ (a .shaped) in
+    (a, e, omega (arith, put .put-job .ensures .next, room roomy), put .put-job .ensures .all)
 
 pub write-spec : {M : Type 1} → statement M
 write-spec = tie.close (tie.spec number-requires returns cast-total-of cast-total-of-2 cast-total-of-3 total-of-requires returns-2 put-job-requires same-length returns-3)

@@ -1,5 +1,6 @@
+-- A word is the part of the row that its two places cut out.
 use native.Mathlib.Omega.{arith}
-use Rattle.print.proofs.Putting.{put-as, fits-as}
+use Rattle.buffer.proofs.Putting.{put-as, fits-as}
 use Rattle.print.proofs.Cutting.{within, word-cut}
 use borrow.Author.Needs.{needs}
 use Rattle.print.proofs.words.put_word.Statement.{statement}
@@ -16,22 +17,21 @@ to-of-requires c κs = search needs
 
 put-part-requires : tie.Need-put-part-requires
 put-part-requires c κs =
-    let w = within (c .before .before .before .before .before .args .w) in
-    ((omega (arith, w, c .before .from-of .ensures, c .to-of .ensures), omega (arith, w, c .to-of .ensures)), fits-as (word-cut (c .before .before .before .before .before .args .w) (c .before .from-of .ensures) (c .to-of .ensures)) (c .before .before .before .before .before .pre))
+    let from = c .before in
+    let start = from .before .before .before .before in
+    let w = within (start .args .w) in
+    ((omega (arith, w, from .from-of .ensures, c .to-of .ensures), omega (arith, w, c .to-of .ensures)), fits-as (word-cut (start .args .w) (from .from-of .ensures) (c .to-of .ensures)) (start .pre))
 
 same-length : tie.Need-same-length
 same-length c = search needs
 
 returns : tie.Need-returns
-returns c = put-as (word-cut (c .before .before .before .before .before .before .before .before .args .w) (c .before .before .before .before .from-of .ensures) (c .before .before .before .to-of .ensures)) (c .before .before .put-part .ensures)
+returns c =
+    let put = c .before .before in
+    let to = put .before in
+    let from = to .before in
+    let start = from .before .before .before .before in
+    put-as (word-cut (start .args .w) (from .from-of .ensures) (to .to-of .ensures)) (put .put-part .ensures)
 
 pub put-word-spec : {M : Type 1} → statement M
-put-word-spec =
-    tie.close
-    (tie.spec
-    slice-aggregate-put-part
-    from-of-requires
-    to-of-requires
-    put-part-requires
-    same-length
-    returns)
+put-word-spec = tie.close (tie.spec slice-aggregate-put-part from-of-requires to-of-requires put-part-requires same-length returns)
