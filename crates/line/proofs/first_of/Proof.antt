@@ -3,6 +3,7 @@ use mathlib.Core.Path.{ap, sym, _∙_}
 use lib.IntN.{pos}
 use borrow.Author.Needs.{needs}
 use Rattle.verdict.specs.declared.Verdict.{Verdict}
+use Rattle.verdict.specs.declared.numbers.InNumbers.{InNumbers}
 use Rattle.line.specs.Fields.{Field, lead}
 use Rattle.line.proofs.Leading.{not-accepted}
 use Rattle.line.proofs.first_of.Statement.{statement}
@@ -11,8 +12,8 @@ use Rattle.line.proofs.first_of.Tie as tie
 enum-known-v : tie.Need-enum-known-v
 enum-known-v c = search needs
 
-answer-of-requires : tie.Need-answer-of-requires
-answer-of-requires c κs = search needs
+in-numbers-requires : tie.Need-in-numbers-requires
+in-numbers-requires c κs = search needs
 
 cast-t5 : tie.Need-cast-t5
 cast-t5 c = search needs
@@ -23,7 +24,7 @@ returns c = sym (ap (λ (v : Verdict). lead v .value) (c .before .v .given .1))
 returns-2 : tie.Need-returns-2
 returns-2 c =
     let refusal = c .before .before in
-    ap pos (c .before .answer-of .ensures .number) ∙ ap (λ (f : Field). f .value) (not-accepted (refusal .before .args .v) (refusal .match .keys2))
+    ap (λ (a : InNumbers). pos (a .number)) (c .before .in-numbers .ensures) ∙ ap (λ (f : Field). f .value) (not-accepted (refusal .before .args .v) (refusal .match .keys2))
 
 pub first-of-spec : {M : Type 1} → statement M
-first-of-spec = tie.close (tie.spec enum-known-v answer-of-requires cast-t5 returns returns-2)
+first-of-spec = tie.close (tie.spec enum-known-v in-numbers-requires cast-t5 returns returns-2)
