@@ -1,3 +1,4 @@
 pub mod Refusing
 pub mod Shapes
 pub mod Accepting
+pub mod Dimensions
