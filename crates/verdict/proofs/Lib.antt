@@ -7,3 +7,4 @@ pub mod Fits
 pub mod Gaps
 pub mod Meetings
 pub mod OneAnswer
+pub mod Dimensions

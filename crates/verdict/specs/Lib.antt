@@ -6,3 +6,4 @@ pub mod Extents
 pub mod Collisions
 pub mod Courses
 pub mod Walks
+pub mod Dimensions
