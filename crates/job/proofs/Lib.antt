@@ -1,3 +1,5 @@
 pub mod Refusing
 pub mod Shapes
 pub mod Accepting
+pub mod Dimensions
+pub mod Designs

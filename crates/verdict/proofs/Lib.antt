@@ -8,3 +8,5 @@ pub mod FirstPairs
 pub mod Saying
 pub mod Unique
 pub mod Accepted
+pub mod Dimensions
+pub mod Designs
