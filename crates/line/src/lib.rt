@@ -3,6 +3,10 @@ pub mod said;
 
 use crate::said::Said;
 use print::line_writer::Line;
+use print::line_writer::begin;
+use print::line_writer::end;
+use print::line_writer::number;
+use print::line_writer::word;
 use print::numbers::Number;
 use print::words::Word;
 use verdict::Verdict;
@@ -67,18 +71,12 @@ pub fn fields<'a>(l: Line<'a>, said: Said) -> Line<'a>
 }
 
 // A whole line: its first word and number, what is said past them, and the newline. One writer holds the buffer from the first to the last.
-fn put_line(out: &mut [u8], first: Word, number: Number, said: Said) -> usize
-    requires { ⌜ Fits (now out) 0 (wordBytes first ++ decimal (valueOf number) ++ fieldsBytes (besides (said .n) (said .verdict)) ++ wordBytes Word.End) ⌝ }
-    ensures { λ r. ⌜ Put (now (out .entry)) 0 (wordBytes first ++ decimal (valueOf number) ++ fieldsBytes (besides (said .n) (said .verdict)) ++ wordBytes Word.End) r (now (out .exit)) ⌝ }
+fn put_line(out: &mut [u8], lead: Word, first: Number, said: Said) -> usize
+    requires { ⌜ Fits (now out) 0 (wordBytes lead ++ decimal (valueOf first) ++ fieldsBytes (besides (said .n) (said .verdict)) ++ wordBytes Word.End) ⌝ }
+    ensures { λ r. ⌜ Put (now (out .entry)) 0 (wordBytes lead ++ decimal (valueOf first) ++ fieldsBytes (besides (said .n) (said .verdict)) ++ wordBytes Word.End) r (now (out .exit)) ⌝ }
 {
-    print::line_writer::end(print::line_writer::word(
-        fields(
-            print::line_writer::number(
-                print::line_writer::word(print::line_writer::begin(out, 0), first),
-                number,
-            ),
-            said,
-        ),
+    end(word(
+        fields(number(word(begin(out, 0), lead), first), said),
         Word::End,
     ))
 }

@@ -1,6 +1,6 @@
 -- All of the bytes are put: after i turns the first i are, and nothing else is touched.
-use mathlib.Core.Path.{_≡_, refl, _∙_}
-use Prim.Native.Nat.{_≤_, _-_}
+use mathlib.Core.Path.{_≡_, refl, ap, _∙_}
+use Prim.Native.Nat.{ℕ, _≤_, _+_, _-_}
 use native.Mathlib.Numerals.{add-one}
 use native.Mathlib.Omega.{arith}
 use borrow.Author.Needs.{needs}
@@ -56,7 +56,7 @@ returns c =
     let a = c .before .before .args in
     let l = c .before .loop in
     let e : l .i ≡ length (now (a .bytes)) = omega arith in
-    record { next = rw e refl; all = l .inv .2 ∙ rw (e, take-length) refl }
+    record { next = ap (λ (k : ℕ). a .at + k) e; all = l .inv .2 ∙ rw (e, take-length) refl }
 
 pub put-bytes-spec : {M : Type 1} → statement M
 put-bytes-spec = tie.close (tie.spec Inv-loop μ-loop loop-holds shared-slice-read-out add-out slice-write-out add-i loop-less loop-again add-result same-length returns)
