@@ -6,7 +6,6 @@ use space::boxes::Found;
 use verdict::Verdict;
 ghost use mathlib.Core.Path.{_≡_};
 ghost use Rattle.space.specs.Boxes.{foundOf};
-ghost use Rattle.job.specs.Limits.{Acceptable};
 ghost use Rattle.array.specs.Ticks.{pointAt};
 ghost use Rattle.array.specs.Lookups.{Looks, LooksOf};
 ghost use Rattle.frame.specs.Framing.{Framed};
@@ -26,7 +25,7 @@ pub fn point_at(j: Job, t: u64, x: u64) -> Lookup
     let Verdict::Accepted(_size) = v else {
         return Lookup::Refused(v);
     };
-    let found = place_at(j, frame::frame_of(j), t, x);
+    let found = place_at(frame::frame_of(j), t, x);
     match found {
         Found::At(k) => Lookup::At(space::boxes::point(j.bounds, k)),
         Found::Nowhere => Lookup::Nowhere,
@@ -45,15 +44,15 @@ pub fn point_at_bytes(s: &[u8], t: u64, x: u64) -> Lookup
 }
 
 // The place of that point: the last that passes both tests, from the end.
-fn place_at(j: Job, f: Frame, t: u64, x: u64) -> Found
-    requires { ⌜ Acceptable j × Framed j f ⌝ }
-    ensures { λ r. ⌜ foundOf r ≡ pointAt j t x ⌝ }
+fn place_at(f: Frame, t: u64, x: u64) -> Found
+    requires { ⌜ Framed f ⌝ }
+    ensures { λ r. ⌜ foundOf r ≡ pointAt (f .job) t x ⌝ }
 {
     let mut k = f.points;
     while 0 < k {
         k -= 1;
-        let p = space::boxes::point(j.bounds, k);
-        if (frame::tick_at(j, f, p, k) == t) & (frame::cell_at(j, f, p, k) == x) {
+        let p = space::boxes::point(f.job.bounds, k);
+        if (frame::tick_at(f, p) == t) & (frame::cell_at(f, p) == x) {
             return Found::At(k);
         }
     }

@@ -20,7 +20,7 @@ Passes done = Unit {0}
 Passes (check n P rest) = P × Passes rest
 
 -- no number of a check is 0
-abbrev Numbered : Checks → Type 0
+abbrev pub Numbered : Checks → Type 0
 Numbered done = Unit {0}
 Numbered (check n P rest) = (n ≡ 0 → ⊥) × Numbered rest
 

@@ -33,6 +33,12 @@ pub struct Job {
     pub row1: Vector,
 }
 
+// The number of refusal, 0 for none, and the count that is returned besides.
+pub struct Counted {
+    pub number: u8,
+    pub count: u64,
+}
+
 // The stream with number s.
 pub fn stream_at(j: Job, s: u8) -> Stream
     requires { ⌜ s < 4 ⌝ }

@@ -6,7 +6,7 @@ use types.Run.{OneOf, miss}
 use denote.Enum.Declared.{tagOf}
 use Rattle.job.specs.declared.Job.{Job}
 use Rattle.job.specs.Limits.{Acceptable}
-use Rattle.verdict.specs.Rules.{Ahead, All}
+use Rattle.verdict.specs.Rules.{Ahead, Even, All}
 use Rattle.verdict.specs.Verdicts.{Says, numberOf}
 use Rattle.verdict.specs.declared.Extent.{Extent}
 use Rattle.verdict.specs.declared.Verdict.{Verdict}
@@ -30,6 +30,10 @@ accepted-limits s = s .kept .0 .0 .0 .0 .1
 -- and precedence
 pub accepted-ahead : {j : Job} {z : Extent} → Says j (Accepted z) → Acceptable j × All Ahead j
 accepted-ahead s = (accepted-limits s, s .kept .0 .0 .0 .1)
+
+-- and hop
+pub accepted-even : {j : Job} {z : Extent} → Says j (Accepted z) → All Even j
+accepted-even s = s .kept .0 .0 .1
 
 -- the sizes of one accepted array are the same
 pub sizes-same : (j : Job) (z z′ : Extent) → Says j (Accepted z) → Says j (Accepted z′) → z ≡ z′
