@@ -2,7 +2,6 @@ pub mod RunLaws
 pub mod ReplyLaws
 pub mod UniqueTicks
 pub mod UniqueReplies
-pub mod RoomLaws
 pub mod LendingLaws
 pub mod WorkLaws
 pub mod StoreLaws

@@ -1,13 +1,16 @@
 -- Laws of the loop: what comes in, and a column that is worked carries the loop one point further.
-use mathlib.Core.Path.{_≡_, refl, sym, _∙_}
+use mathlib.Core.Path.{_≡_, refl, sym, ap, _∙_}
 use mathlib.Core.Logic.{inl, inr}
 use mathlib.Core.List.{List}
 use mathlib.Core.Option.{Option, none, some}
-use Prim.Native.Nat.{ℕ, _+_, _*_, _<_, _≤_}
+use Prim.Native.Nat.{ℕ, _+_, _*_, _-_, _<_, _≤_}
+use native.Mathlib.Nat.{le-of-eq}
 use native.Mathlib.Omega.{arith}
-use lib.ListN.{length, getD}
+use lib.ListN.{length, getD, take, drop, length-drop}
+use lib.Seq.{take-all, getD-drop}
 use borrow.Author.Count.{below-more}
 use Rattle.space.specs.Boxes.{given}
+use Rattle.space.proofs.Rows.{row-within}
 use Rattle.job.specs.declared.Job.{Job}
 use Rattle.job.specs.Refusals.{done, check, First}
 use Rattle.job.specs.Limits.{limits, Acceptable}
@@ -17,16 +20,32 @@ use Rattle.tables.specs.Tables.{Long, entryFor, previous}
 use Rattle.cell.specs.Cells.{work}
 use Rattle.tables.proofs.TableLaws.{previous-before, same-work}
 use Rattle.array.specs.Loops.{incoming, Looped, loopChecks}
+use Rattle.array.specs.Steps.{Rowed}
 use Rattle.tables.specs.Columns.{Column}
 
 -- ---- what came in
-pub incoming-some : (j : Job) (input values : List ℕ) (s k q : ℕ) → previous j s k ≡ some q → entryFor j values s q ≡ incoming j input values s k
-unfolding incoming
-incoming-some j input values s k q e = rw e
+-- the rest of a table, from a on
+abbrev rest : ℕ → List ℕ → List ℕ
+rest a table = take (length table - a) (drop a table)
 
-pub incoming-none : (j : Job) (input values : List ℕ) (s k : ℕ) → previous j s k ≡ none → entryFor j input s k ≡ incoming j input values s k
+rest-is : (a : ℕ) (table : List ℕ) → rest a table ≡ drop a table
+rest-is a table = take-all (length table - a) (drop a table) (le-of-eq (length-drop a table))
+
+-- from a stream's row on it has a row
+pub rowed : {j : Job} {s from : ℕ} (table : List ℕ) → s < j .m → from ≡ s * points j → length table ≡ j .m * points j → Rowed j (rest from table)
+rowed {j} {s} {from} table ls e size = rw (rest-is from table) (record { long = rw length-drop (omega (arith, row-within s (j .m) (points j) ls)) })
+
+-- and what comes in is found there
+pub incoming-there : (j : Job) (s k : ℕ) {from : ℕ} (input values : List ℕ) → from ≡ s * points j → given (previous j s k) (getD (rest from input) k 0) (λ (q : ℕ). getD (rest from values) q 0) ≡ incoming j input values s k
 unfolding incoming
-incoming-none j input values s k e = rw e
+incoming-there j s k {from} input values e = by (previous j s k)
+  where
+    there : (table : List ℕ) (i : ℕ) → getD (rest from table) i 0 ≡ entryFor j table s i
+    there table i = ap (λ (l : List ℕ). getD l i 0) (rest-is from table) ∙ getD-drop from table i 0 ∙ ap (λ (n : ℕ). getD table (n + i) 0) e
+
+    by : (o : Option ℕ) → given o (getD (rest from input) k 0) (λ (q : ℕ). getD (rest from values) q 0) ≡ given o (entryFor j input s k) (entryFor j values s)
+    by none = there input k
+    by (some q) = there values q
 
 -- what comes in is the same where the columns before are
 pub incoming-from : (j : Job) → Acceptable j → (input v w : List ℕ) (u k : ℕ) → u < j .m → k < points j → ((q : ℕ) → q < k → entryFor j v u q ≡ entryFor j w u q) → incoming j input v u k ≡ incoming j input w u k

@@ -1,42 +1,56 @@
--- Laws of an array that passed the checks: it may run, and its tables and places are what a tick asks for.
-use mathlib.Core.Path.{_≡_, refl, subst, _∙_}
-use mathlib.Core.Logic.{inl, inr}
+-- Laws of an array that passed the checks: its tables and places are what a tick asks for, and a run or a tick that is done is what is promised of it.
+use mathlib.Core.Path.{_≡_, refl, sym, ap, subst, _∙_}
+use mathlib.Core.Logic.{inr}
 use mathlib.Core.List.{List}
-use Prim.Native.Nat.{ℕ, _<_, _≤_}
+use Prim.Native.Nat.{ℕ, _≤_}
 use native.Mathlib.Omega.{arith}
 use lib.ListN.{length}
 use Rattle.job.specs.declared.Job.{Job}
 use Rattle.job.specs.Refusals.{First}
 use Rattle.verdict.specs.Verdicts.{Says}
+use Rattle.verdict.specs.Extents.{room}
 use Rattle.verdict.specs.declared.Extent.{Extent}
 use Rattle.verdict.specs.declared.Verdict.the-variants.{Accepted}
-use Rattle.verdict.proofs.Accepted.{accepted-limits, accepted-ahead, accepted-even}
+use Rattle.tables.specs.Tables.{Long}
 use Rattle.frame.specs.declared.Frame.{Frame}
 use Rattle.frame.specs.Framing.{Framed}
-use Rattle.array.specs.Steps.{Runnable, Tabled, Roomy}
-use Rattle.checks.specs.Answers.{runChecks, tickChecks}
+use Rattle.checks.specs.Answers.{checksOf, Lacks}
+use Rattle.checks.specs.declared.RunReply.the-variants.{Ticks}
+use Rattle.checks.specs.declared.Work.{Work}
+use Rattle.checks.specs.declared.Work.the-variants.{Run, Tick}
 use Rattle.checks.proofs.AnswerLaws.{passed}
+use Rattle.array.specs.Ticks.{Ticked}
+use Rattle.array.specs.Runs.{Ran, cleared, Worked, Does}
+use Rattle.array.specs.Steps.{Tabled, Roomy}
+use Rattle.array.proofs.RunLaws.{ran-as}
 
--- an accepted job may run if its room is inside the size limit
-pub accepted-runs : {j : Job} {z : Extent} → Says j (Accepted z) → z .room ≤ 8192 → Runnable j
-accepted-runs {j} {z} s h =
-    record { acceptable = accepted-limits s; ahead = accepted-ahead s .1; even = accepted-even s; few = subst (λ (n : ℕ). n ≤ 8192) (s .claim .room) h }
+-- all checks passed, and f is the job's frame
+module _ {j : Job} {z : Extent} (s : Says j (Accepted z)) (work : Work) {a b n : ℕ} (p : First (checksOf work j a b n z) 0) {f : Frame} (e : f .job ≡ j) (F : Framed f) where
+  long : Long (f .job) a b
+  long = subst (λ (i : Job). Long i a b) (sym e) (passed work j a b n z p .0)
 
--- ---- all checks passed
-module _ {j : Job} {z : Extent} (s : Says j (Accepted z)) {a b n : ℕ} (p : First (runChecks j a b n z) 0) where
-  -- a tick past the end
-  pub tick-late : (t : ℕ) → z .ticks ≤ t → First (tickChecks t j a b n z) 16
-  tick-late t h = let q = passed j a b n z p in inl (q .0, inl (q .1, inl (q .2, inr ((λ l. omega arith), refl))))
+  pub input-tabled : {input : List ℕ} → length input ≡ a → Tabled f input
+  input-tabled d = record { framed = F; size = d ∙ long .0 }
 
-  pub tick-taken : (t : ℕ) → t < z .ticks → First (tickChecks t j a b n z) 0
-  tick-taken t h = let q = passed j a b n z p in inl (q .0, inl (q .1, inl (q .2, inl (h, refl))))
+  pub values-tabled : {values : List ℕ} → length values ≡ b → Tabled f values
+  values-tabled d = record { framed = F; size = d ∙ long .1 }
 
-  -- the tables and the places are what a tick asks for
-  pub tables-tabled : {f : Frame} {input values : List ℕ} → Framed j f → length input ≡ a → length values ≡ b → Tabled j f input × Tabled j f values
-  tables-tabled g e d =
-      let q = passed j a b n z p in
-      let r = accepted-runs s (q .1) in
-      (record { runnable = r; framed = g; size = e ∙ q .0 .0 }, record { runnable = r; framed = g; size = d ∙ q .0 .1 })
+  pub places-roomy : {places : List ℕ} → length places ≡ n → Roomy f places
+  places-roomy {places} d =
+      let r : room j ≤ length places = omega (arith, passed work j a b n z p .2, s .claim .room, d) in
+      record { enough = subst (λ (i : Job). room i ≤ length places) (sym e) r }
 
-  pub places-roomy : {places : List ℕ} → length places ≡ n → Roomy j places
-  places-roomy e = record { enough = omega (arith, passed j a b n z p .2, s .claim .room, e) }
+-- ---- what is done for the frame's job, i, is done for j
+module _ {i j : Job} {z : Extent} (work : Work) (input values places values′ places′ : List ℕ) {n : ℕ} (s : Says j (Accepted z)) (l : Lacks (checksOf work j (length input) (length values) (length places)) z (Ticks n)) (e : i ≡ j) where
+  done : Worked work j input values places values′ places′ → Does work j input values places values′ places′ (Ticks n)
+  done h = inr (record { extent = z; accepted = s; lacks = l; finished = λ e. h; same = λ ne. absurd (ne refl) })
+
+  -- a run, from cleared places
+  pub run-done : work ≡ Run → {p : List ℕ} → p ≡ cleared (z .room) places → Ran i input p values n places′ values′ → Does work j input values places values′ places′ (Ticks n)
+  run-done w d h =
+      let ran = ran-as e (d ∙ ap (λ (k : ℕ). cleared k places) (s .claim .room)) (l .besides ∙ s .claim .ticks) h in
+      done (rw w ran)
+
+  -- a single tick
+  pub tick-done : {t : ℕ} → work ≡ Tick t → Ticked i input t places values places′ values′ → Does work j input values places values′ places′ (Ticks n)
+  tick-done w h = let ticked = rw e at h in done (rw w ticked)

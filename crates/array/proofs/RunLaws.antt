@@ -1,5 +1,5 @@
 -- Laws of a run: the places are cleared one after the other, and a run is tick after tick.
-use mathlib.Core.Path.{_≡_, refl, ap, subst, _∙_}
+use mathlib.Core.Path.{_≡_, refl, ap, _∙_}
 use mathlib.Core.List.{List, _∷_, _++_}
 use Prim.Native.Nat.{ℕ, zero, suc, _+_, _<_, _≤_}
 use native.Mathlib.Numerals.{add-one}
@@ -27,25 +27,25 @@ clear-size l i h = rw (length-append, length-replicate, length-drop) (omega arit
 
 -- ---- tick after tick
 -- the tables of a run in its course
-module _ (j : Job) (f : Frame) (input places₀ values₀ : List ℕ) where
+module _ (f : Frame) (input places₀ values₀ : List ℕ) where
   pub record Running (ticks : ℕ) (places values : List ℕ) (t : ℕ) : Type 0 where
     pub low : t ≤ ticks
     pub size : length places ≡ length places₀
-    pub tabled : Tabled j f values
-    pub ran : Ran j input places₀ values₀ t places values
+    pub tabled : Tabled f values
+    pub ran : Ran (f .job) input places₀ values₀ t places values
 
-  pub run-start : (ticks : ℕ) → Tabled j f values₀ → Running ticks places₀ values₀ 0
+  pub run-start : (ticks : ℕ) → Tabled f values₀ → Running ticks places₀ values₀ 0
   run-start ticks T = record { low = omega arith; size = refl; tabled = T; ran = ready }
 
-  pub run-step : {ticks t : ℕ} {places values places′ values′ : List ℕ} → Running ticks places values t → t < ticks → Ticked j input t places values places′ values′ → Running ticks places′ values′ (t + 1)
+  pub run-step : {ticks t : ℕ} {places values places′ values′ : List ℕ} → Running ticks places values t → t < ticks → Ticked (f .job) input t places values places′ values′ → Running ticks places′ values′ (t + 1)
   run-step d h k = record {
     low = omega arith;
     size = k .length-places ∙ d .size;
-    tabled = record { runnable = d .tabled .runnable; framed = d .tabled .framed; size = k .length-values ∙ d .tabled .size };
+    tabled = record { framed = d .tabled .framed; size = k .length-values ∙ d .tabled .size };
     ran = rw add-one (ticked (d .ran) k);
   }
 
-  pub run-end : {ticks t : ℕ} {places values : List ℕ} → Running ticks places values t → ticks ≤ t → Ran j input places₀ values₀ ticks places values
+  pub run-end : {ticks t : ℕ} {places values : List ℕ} → Running ticks places values t → ticks ≤ t → Ran (f .job) input places₀ values₀ ticks places values
   run-end {ticks} {t} d h = let e : t ≡ ticks = omega (arith, d .low) in rw e at (d .ran)
 
 -- a run keeps the length of the value table
@@ -53,7 +53,6 @@ pub ran-size : {j : Job} {input places values : List ℕ} {n : ℕ} {p v : List 
 ran-size ready = refl
 ran-size (ticked r h) = h .length-values ∙ ran-size r
 
--- a run from the same places, of as many ticks
-pub ran-as : {j : Job} {input p q values places′ values′ : List ℕ} {n m : ℕ} → p ≡ q → n ≡ m → Ran j input p values n places′ values′ → Ran j input q values m places′ values′
-ran-as {j} {input} {p} {q} {values} {places′} {values′} {n} {m} e d r =
-    subst (λ (l : List ℕ). Ran j input l values m places′ values′) e (subst (λ (k : ℕ). Ran j input p values k places′ values′) d r)
+-- a run of the same job from the same places, of as many ticks
+pub ran-as : {i j : Job} {input p q values places′ values′ : List ℕ} {n m : ℕ} → i ≡ j → p ≡ q → n ≡ m → Ran i input p values n places′ values′ → Ran j input q values m places′ values′
+ran-as e d f r = rw (e, d, f) at r

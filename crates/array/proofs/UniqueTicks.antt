@@ -17,9 +17,8 @@ use Rattle.frame.specs.Frames.{tickOf, from, inPlace}
 use Rattle.array.specs.Ticks.{Ticked}
 use Rattle.array.specs.Runs.{Ran}
 use Rattle.array.specs.Runs.Ran.{ready, ticked}
-use Rattle.array.specs.Steps.{Runnable}
-use Rattle.array.proofs.RoomLaws.{from-next, delay-some}
-use Rattle.array.proofs.LendingLaws.{from-first}
+use Rattle.frame.specs.Framing.{Runnable}
+use Rattle.frame.proofs.RoomLaws.{from-first, from-next, delay-some}
 use Rattle.tables.proofs.TableLaws.{tables-same}
 use Rattle.array.proofs.RunLaws.{ran-size}
 
@@ -29,7 +28,7 @@ module _ (j : Job) (R : Runnable j) (a b : List ℕ) (same : (s x r : ℕ) → s
   -- are the same in the band of a stream
   band-same : (s i : ℕ) → s < j .m → i < cells j * w j s → getD a (from j s + i) 0 ≡ getD b (from j s + i) 0
   band-same s i ls li =
-      let n = delay-some j R s ls in
+      let n = delay-some R ls in
       rw div-add-mod' at (same s (i / w j s) (i % w j s) ls (div-lt-iff-lt-mul n .1 li) (mod-lt i n))
 
   -- in the bands of the first n streams

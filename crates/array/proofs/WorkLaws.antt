@@ -30,15 +30,15 @@ incoming-none j input t places s x k e = rw e
 -- ---- a point
 module _ {j : Job} {input : List ℕ} {t : ℕ} {places : List ℕ} where
   -- its tick: its column is worked from what came in at its cell
-  pub point-worked : Acceptable j → {k x : ℕ} {got before after : List ℕ} → length before ≡ j .m * points j → x ≡ cellOf j k → tickOf j k ≡ t → ((u : ℕ) → u < j .m → getD got u 0 ≡ incoming j input t places u x k) → Column j k got before (j .m) after → Point j input t places k before after
-  point-worked a {k} {x} {got} z ex et h c = record {
+  pub point-worked : Acceptable j → {k : ℕ} {got before after : List ℕ} → length before ≡ j .m * points j → tickOf j k ≡ t → ((u : ℕ) → u < j .m → getD got u 0 ≡ incoming j input t places u (cellOf j k) k) → Column j k got before (j .m) after → Point j input t places k before after
+  point-worked a {k} {got} z et h c = record {
     size = c .size ∙ sym z;
-    worked = λ s ls e. c .here s ls ∙ same-work j a s ls (λ (u : ℕ). getD got u 0) (λ (u : ℕ). incoming j input t places u (cellOf j k) k) (λ u lu. h u lu ∙ ap (λ (y : ℕ). incoming j input t places u y k) ex);
+    worked = λ s ls e. c .here s ls ∙ same-work j a s ls (λ (u : ℕ). getD got u 0) (λ (u : ℕ). incoming j input t places u (cellOf j k) k) h;
     spared = λ s q ls lq ne. c .others s q ls lq (λ e. ne e et);
   }
 
   -- another tick: nothing is altered
-  pub point-idle : {k : ℕ} {before : List ℕ} → (tickOf j k ≡ t → ⊥) → Point j input t places k before before
+  point-idle : {k : ℕ} {before : List ℕ} → (tickOf j k ≡ t → ⊥) → Point j input t places k before before
   point-idle ne = record { size = refl; worked = λ s ls e. absurd (ne e); spared = λ s q ls lq f. refl }
 
   -- ---- the points one after the other
@@ -55,6 +55,10 @@ module _ {j : Job} {input : List ℕ} {t : ℕ} {places : List ℕ} where
         (λ q l e. p .spared s q ls (omega arith) (λ f d. omega arith) ∙ g .worked s q ls l e) (p .worked s ls) q lq;
     spared = λ s q ls lq ne. p .spared s q ls lq (λ e f. ne (omega arith) (ap (tickOf j) e ∙ f)) ∙ g .spared s q ls lq (λ l f. ne (omega arith) f);
   }
+
+  -- it has another tick
+  pub points-idle : {k : ℕ} {before now : List ℕ} → k < points j → (tickOf j k ≡ t → ⊥) → Points j input t places k before now → Points j input t places (k + 1) before now
+  points-idle lk ne g = points-step lk g (point-idle ne)
 
   -- all are done
   pub points-end : {k : ℕ} {before after : List ℕ} → k ≡ points j → Points j input t places k before after → Points j input t places (points j) before after

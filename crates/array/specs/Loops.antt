@@ -4,6 +4,7 @@ use mathlib.Core.List.{List}
 use Prim.Native.Nat.{ℕ, _*_, _<_}
 use lib.ListN.{length}
 use Rattle.space.specs.Boxes.{given}
+use Rattle.job.specs.declared.Counted.{Counted}
 use Rattle.job.specs.declared.Job.{Job}
 use Rattle.job.specs.Refusals.{Checks, done, check, First, andThen}
 use Rattle.job.specs.Limits.{limits}
@@ -25,6 +26,11 @@ pub record Looped (j : Job) (input values : List ℕ) : Type 0 where
 -- 'The loop uses 1 to 8 and 13'
 abbrev pub loopChecks : Job → List ℕ → List ℕ → Checks
 loopChecks j input values = andThen (limits j) (check 13 (Long j (length input) (length values)) done)
+
+-- 'No.' and the count of 'Returns besides': the point count
+abbrev pub countedOf : LoopReply → Counted
+countedOf (Points n) = record { number = 0; count = n }
+countedOf (Refused r) = record { number = r; count = 0 }
 
 -- what a reply says of the job and of the value table before and after
 abbrev pub Loops : Job → List ℕ → List ℕ → List ℕ → LoopReply → Type 0

@@ -6,7 +6,9 @@ use lib.ListN.{length, drop, replicate}
 use Rattle.job.specs.declared.Job.{Job}
 use Rattle.verdict.specs.Extents.{ticks, room}
 use Rattle.array.specs.Ticks.{Ticked}
-use Rattle.checks.specs.Answers.{runChecks, tickChecks, Replies}
+use Rattle.checks.specs.Answers.{checksOf, Replies}
+use Rattle.checks.specs.declared.Work.{Work}
+use Rattle.checks.specs.declared.Work.the-variants.{Run, Tick}
 use Rattle.checks.specs.declared.RunReply.{RunReply}
 
 -- ticks 0 to n - 1 in order
@@ -18,12 +20,19 @@ pub data Ran (j : Job) (input places values : List ℕ) : ℕ → List ℕ → L
 abbrev pub cleared : ℕ → List ℕ → List ℕ
 cleared n places = replicate n 0 ++ drop n places
 
--- 'A run clears the first R places and does every tick in order; it answers the tick count'
-abbrev pub Runs : Job → List ℕ → List ℕ → List ℕ → List ℕ → List ℕ → RunReply → Type 0
-Runs j input values places values′ places′ r =
-    Replies j (runChecks j (length input) (length values) (length places)) (Ran j input (cleared (room j) places) values (ticks j) places′ values′) ((values′ ≡ values) × (places′ ≡ places)) r
+-- what is done to the tables: 'A run clears the first R places and does every tick in order'; 'A single tick starts from the lent places as they are'
+abbrev pub Worked : Work → Job → List ℕ → List ℕ → List ℕ → List ℕ → List ℕ → Type 0
+Worked Run j input values places values′ places′ = Ran j input (cleared (room j) places) values (ticks j) places′ values′
+Worked (Tick t) j input values places values′ places′ = Ticked j input t places values places′ values′
 
--- 'A single tick is public, answers the tick count too and starts from the lent places as they are'
+-- 'it answers the tick count', 'answers the tick count too'
+abbrev pub Does : Work → Job → List ℕ → List ℕ → List ℕ → List ℕ → List ℕ → RunReply → Type 0
+Does work j input values places values′ places′ r =
+    Replies j (checksOf work j (length input) (length values) (length places)) (Worked work j input values places values′ places′) ((values′ ≡ values) × (places′ ≡ places)) r
+
+-- a run, and a single tick
+abbrev pub Runs : Job → List ℕ → List ℕ → List ℕ → List ℕ → List ℕ → RunReply → Type 0
+Runs = Does Run
+
 abbrev pub SingleTick : ℕ → Job → List ℕ → List ℕ → List ℕ → List ℕ → List ℕ → RunReply → Type 0
-SingleTick t j input values places values′ places′ r =
-    Replies j (tickChecks t j (length input) (length values) (length places)) (Ticked j input t places values places′ values′) ((values′ ≡ values) × (places′ ≡ places)) r
+SingleTick t = Does (Tick t)

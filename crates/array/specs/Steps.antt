@@ -1,41 +1,37 @@
 -- What a tick asks for and what its steps leave; contracts of functions that serve the array cite these.
 use mathlib.Core.Path.{_≡_}
-use mathlib.Core.Bool.{cond}
 use mathlib.Core.List.{List}
 use Prim.Native.Nat.{ℕ, _*_, _%_, _<_, _≤_}
 use lib.ListN.{length, drop}
-use Rattle.space.specs.Numbers.{roomLimit}
-use Rattle.space.specs.Boxes.{given}
+use Rattle.space.specs.Boxes.{backOf, given}
 use Rattle.job.specs.declared.Job.{Job}
-use Rattle.job.specs.Limits.{Acceptable}
-use Rattle.verdict.specs.Rules.{Ahead, Even, All}
-use Rattle.bands.specs.Bands.{at, Lent}
-use Rattle.bands.specs.declared.Band.{Band}
 use Rattle.job.specs.Record.{points}
+use Rattle.verdict.specs.Extents.{rectangle, cells, room}
+use Rattle.verdict.specs.Mapping.{hop, w}
 use Rattle.tables.specs.Tables.{entryFor}
-use Rattle.verdict.specs.Extents.{cells, room}
-use Rattle.verdict.specs.Mapping.{w}
+use Rattle.bands.specs.Bands.{at}
 use Rattle.frame.specs.Frames.{tickOf, cellOf, from, inPlace}
-use Rattle.array.specs.Ticks.{lastOf, works, arrival, fresh}
+use Rattle.frame.specs.Framing.{Framed}
 use Rattle.frame.specs.declared.Frame.{Frame}
-use Rattle.frame.specs.Framing.{Banded, Framed}
+use Rattle.array.specs.Ticks.{lastOf, works, arrival, fresh}
 
--- what a job that may run has: it keeps the limits, precedence and hop, and its room is inside the size limit
-pub record Runnable (j : Job) : Type 0 where
-  pub acceptable : Acceptable j
-  pub ahead : All Ahead j
-  pub even : All Even j
-  pub few : room j ≤ roomLimit
-
--- a job that may run with its frame, and a table with a column for each point
-pub record Tabled (j : Job) (f : Frame) (table : List ℕ) : Type 0 where
-  pub runnable : Runnable j
-  pub framed : Framed j f
-  pub size : length table ≡ j .m * points j
+-- the frame of a job, and a table with a column for each point
+pub record Tabled (f : Frame) (table : List ℕ) : Type 0 where
+  pub framed : Framed f
+  pub size : length table ≡ f .job .m * points (f .job)
 
 -- the places suffice
-pub record Roomy (j : Job) (places : List ℕ) : Type 0 where
-  pub enough : room j ≤ length places
+pub record Roomy (f : Frame) (places : List ℕ) : Type 0 where
+  pub enough : room (f .job) ≤ length places
+
+-- the band of stream s, with the places that it has
+pub record BandOf (f : Frame) (s : ℕ) (band : List ℕ) : Type 0 where
+  pub stream : s < f .job .m
+  pub size : length band ≡ cells (f .job) * w (f .job) s
+
+-- a table, or what is left of it, has a row
+pub record Rowed (j : Job) (table : List ℕ) : Type 0 where
+  pub long : points j ≤ length table
 
 -- the point at place k is worked if its tick is t; the other columns are as before
 pub record Point (j : Job) (input : List ℕ) (t : ℕ) (places : List ℕ) (k : ℕ) (before after : List ℕ) : Type 0 where
@@ -49,21 +45,15 @@ pub record Points (j : Job) (input : List ℕ) (t : ℕ) (places : List ℕ) (n 
   pub worked : (s k : ℕ) → s < j .m → k < n → tickOf j k ≡ t → entryFor j after s k ≡ fresh j input t places s (cellOf j k) k
   pub spared : (s k : ℕ) → s < j .m → k < points j → (k < n → tickOf j k ≡ t → ⊥) → entryFor j after s k ≡ entryFor j before s k
 
--- a band of stream s is lent with its shape, for tick t
-pub record Band-lent (j : Job) (s t : ℕ) (b : Band) (slot : ℕ) (band : List ℕ) : Type 0 where
-  pub banded : Banded j s b
-  pub turn : slot ≡ t % w j s
-  pub lent : Lent b slot band
-
 -- place slot of the cells of a band is rewritten by f, the other places stay
 pub record Slot (j : Job) (s slot : ℕ) (f : ℕ → ℕ) (before after : List ℕ) : Type 0 where
   pub size : length after ≡ length before
   pub here : (x : ℕ) → x < cells j → at (w j s) after x slot ≡ f x
   pub others : (x r : ℕ) → x < cells j → r < w j s → (r ≡ slot → ⊥) → at (w j s) after x r ≡ at (w j s) before x r
 
--- the value of the point at place k where it is worked at x in tick t, or what is there
-abbrev pub putOne : Job → ℕ → ℕ → ℕ → List ℕ → ℕ → List ℕ → ℕ → ℕ
-putOne j t s slot values k band x = cond (works j t x k) (entryFor j values s k) (at (w j s) band x slot)
+-- what arrives at cell x in the band of stream s in tick t
+abbrev pub inBand : Job → ℕ → ℕ → List ℕ → ℕ → ℕ
+inBand j t s band x = given (backOf (rectangle j) (hop j s) x) 0 (λ (y : ℕ). at (w j s) band y (t % w j s))
 
 -- the value of the point worked at x among the first n, or else other
 abbrev pub workedOr : Job → ℕ → ℕ → List ℕ → ℕ → ℕ → ℕ → ℕ

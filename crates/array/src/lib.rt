@@ -6,74 +6,93 @@ pub mod tick;
 mod work;
 
 use checks::RunReply;
+use checks::Work;
 use frame::Frame;
 use job::Job;
 use verdict::Verdict;
 ghost use mathlib.Core.Path.{_≡_};
 ghost use Prim.Native.Nat.{_≤_};
 ghost use lib.ListN.{length};
-ghost use Rattle.job.specs.declared.Job.{Job};
-ghost use Rattle.job.specs.Record.{points as pointsOf};
-ghost use Rattle.array.specs.Runs.{Ran, cleared, Runs, SingleTick};
-ghost use Rattle.array.specs.Steps.{Tabled, Roomy};
+ghost use Rattle.verdict.specs.Verdicts.{Says};
 ghost use Rattle.frame.specs.Framing.{Timed};
+ghost use Rattle.array.specs.Runs.{Ran, cleared, Does, Runs, SingleTick};
+ghost use Rattle.array.specs.Steps.{Tabled, Roomy};
 
 // The run of a record: the first R places cleared, then every tick in order.
 pub fn run_of(j: Job, input: &[u32], values: &mut [u32], places: &mut [u32]) -> RunReply
     ensures { λ r. ⌜ Runs j (now (input .entry)) (now (values .entry)) (now (places .entry)) (now (values .exit)) (now (places .exit)) r ⌝ }
 {
-    let v = verdict::verdict_of(j);
-    let Verdict::Accepted(size) = v else {
-        return RunReply::Refused(v);
-    };
-    let reply = checks::lacking(j, size, input.len(), values.len(), places.len());
-    let RunReply::Ticks(ticks) = reply else {
-        return reply;
-    };
-    let f = frame::frame_of(j);
-    let mut timetable = [0u64; frame::TIMETABLE];
-    frame::fill_timetable(j, f, &mut timetable[..]);
-    clear(&mut places[..], size.room as usize);
-    all_ticks(
+    work_out(
         j,
-        f,
-        &timetable[..],
-        ticks,
+        verdict::verdict_of(j),
+        Work::Run,
         input,
         &mut values[..],
         &mut places[..],
-    );
-    RunReply::Ticks(ticks)
+    )
 }
 
 // One tick of a record, from the lent places as they are.
 pub fn tick_of(j: Job, t: u64, input: &[u32], values: &mut [u32], places: &mut [u32]) -> RunReply
     ensures { λ r. ⌜ SingleTick t j (now (input .entry)) (now (values .entry)) (now (places .entry)) (now (values .exit)) (now (places .exit)) r ⌝ }
 {
-    let v = verdict::verdict_of(j);
-    let Verdict::Accepted(size) = v else {
-        return RunReply::Refused(v);
-    };
-    let reply = checks::lacking(j, size, input.len(), values.len(), places.len());
-    let RunReply::Ticks(ticks) = reply else {
-        return reply;
-    };
-    if ticks <= t {
-        return RunReply::Late;
-    }
-    let f = frame::frame_of(j);
-    let mut timetable = [0u64; frame::TIMETABLE];
-    frame::fill_timetable(j, f, &mut timetable[..]);
-    crate::tick::one_tick(
+    work_out(
         j,
-        f,
-        &timetable[..],
-        t,
+        verdict::verdict_of(j),
+        Work::Tick(t),
         input,
         &mut values[..],
         &mut places[..],
-    );
-    RunReply::Ticks(ticks)
+    )
+}
+
+// A run or a tick of a job with its verdict.
+pub fn work_out(
+    j: Job,
+    v: Verdict,
+    work: Work,
+    input: &[u32],
+    values: &mut [u32],
+    places: &mut [u32],
+) -> RunReply
+    requires { ⌜ Says j v ⌝ }
+    ensures { λ r. ⌜ Does work j (now (input .entry)) (now (values .entry)) (now (places .entry)) (now (values .exit)) (now (places .exit)) r ⌝ }
+{
+    let Verdict::Accepted(extent) = v else {
+        return RunReply::Refused(v);
+    };
+    let reply = checks::lacking(j, extent, work, input.len(), values.len(), places.len());
+    let RunReply::Ticks(ticks) = reply else {
+        return reply;
+    };
+    let f = frame::frame_of(j);
+    let mut timetable = [0u64; frame::TIMETABLE];
+    frame::fill_timetable(f, &mut timetable[..]);
+    match work {
+        Work::Run => {
+            clear(&mut places[..], extent.room as usize);
+            all_ticks(
+                f,
+                &timetable[..],
+                ticks,
+                input,
+                &mut values[..],
+                &mut places[..],
+            );
+            RunReply::Ticks(ticks)
+        }
+        Work::Tick(t) => {
+            crate::tick::one_tick(
+                f,
+                &timetable[..],
+                t,
+                input,
+                &mut values[..],
+                &mut places[..],
+            );
+            RunReply::Ticks(ticks)
+        }
+    }
 }
 
 // The first n places are cleared.
@@ -90,7 +109,6 @@ fn clear(places: &mut [u32], n: usize)
 
 // Every tick in order.
 fn all_ticks(
-    j: Job,
     f: Frame,
     timetable: &[u64],
     ticks: u64,
@@ -98,12 +116,12 @@ fn all_ticks(
     values: &mut [u32],
     places: &mut [u32],
 )
-    requires { ⌜ Tabled j f (now input) × Tabled j f (now values) × Roomy j (now places) × Timed j (pointsOf j) (now timetable) ⌝ }
-    ensures { λ _. ⌜ Ran j (now (input .entry)) (now (places .entry)) (now (values .entry)) ticks (now (places .exit)) (now (values .exit)) ⌝ }
+    requires { ⌜ Tabled f (now input) × Tabled f (now values) × Roomy f (now places) × Timed f (now timetable) ⌝ }
+    ensures { λ _. ⌜ Ran (f .job) (now (input .entry)) (now (places .entry)) (now (values .entry)) ticks (now (places .exit)) (now (values .exit)) ⌝ }
 {
     let mut t: u64 = 0;
     while t < ticks {
-        crate::tick::one_tick(j, f, timetable, t, input, &mut values[..], &mut places[..]);
+        crate::tick::one_tick(f, timetable, t, input, &mut values[..], &mut places[..]);
         t += 1;
     }
 }

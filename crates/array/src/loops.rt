@@ -1,4 +1,5 @@
 // The plain loop nest of a job: points in box order.
+use job::Counted;
 use job::Job;
 use space::Vector;
 use space::boxes::Found;
@@ -6,16 +7,31 @@ ghost use mathlib.Core.Path.{_≡_};
 ghost use Prim.Native.Nat.{ℕ, _+_, _<_};
 ghost use lib.ListN.{getD};
 ghost use Rattle.space.specs.Vectors.{entries};
-ghost use Rattle.space.specs.Boxes.{pointOf};
-ghost use Rattle.job.specs.Record.{box};
+ghost use Rattle.space.specs.Boxes.{given, pointOf};
 ghost use Rattle.job.specs.Limits.{Acceptable};
-ghost use Rattle.array.specs.Loops.{incoming, Looped, Loops};
+ghost use Rattle.job.specs.Record.{box, points as pointsOf};
+ghost use Rattle.tables.specs.Tables.{previous};
 ghost use Rattle.tables.specs.Columns.{Ready};
+ghost use Rattle.array.specs.Loops.{incoming, Looped, countedOf, Loops};
+ghost use Rattle.array.specs.Steps.{Rowed};
 
 // What the loop answers: the point count, or the number of refusal.
 pub enum LoopReply {
     Points(u64),
     Refused(u8),
+}
+
+// The same in numbers.
+pub fn counted(r: LoopReply) -> Counted
+    ensures { λ c. ⌜ c ≡ countedOf r ⌝ }
+{
+    match r {
+        LoopReply::Points(points) => Counted {
+            number: 0,
+            count: points,
+        },
+        LoopReply::Refused(number) => Counted { number, count: 0 },
+    }
 }
 
 // The loop over the value table, with the input for the points that have no point before them.
@@ -43,19 +59,19 @@ pub fn loop_within(j: Job, input: &[u32], values: &mut [u32]) -> LoopReply
     LoopReply::Points(points)
 }
 
-// The incoming value of stream s at p, the point at place k.
-fn incoming_at(j: Job, input: &[u32], values: &[u32], points: u64, s: u8, p: Vector, k: u64) -> u32
-    requires { ⌜ Ready j (now input) points × Ready j (now values) points × (s < j .m) × (k < points) × (entries p ≡ pointOf (box j) k) ⌝ }
-    ensures { λ r. ⌜ r ≡ incoming j (now (input .entry)) (now (values .entry)) s k ⌝ }
+// The incoming value of stream s at p, the point at place k, from tables that begin with the stream's row.
+fn incoming_at(j: Job, s: u8, p: Vector, k: u64, input: &[u32], values: &[u32]) -> u32
+    requires { ⌜ Acceptable j × (s < j .m) × Rowed j (now input) × Rowed j (now values) × (k < pointsOf j) × (entries p ≡ pointOf (box j) k) ⌝ }
+    ensures { λ r. ⌜ r ≡ given (previous j s k) (getD (now (input .entry)) k 0) (λ (q : ℕ). getD (now (values .entry)) q 0) ⌝ }
 {
-    let found = tables::previous_at(j, s, p, k);
+    let found = tables::previous_at(j, s, p);
     match found {
         Found::At(q) => {
-            let i = tables::place_in_table(s, points, q);
+            let i = q as usize;
             values[i]
         }
         Found::Nowhere => {
-            let i = tables::place_in_table(s, points, k);
+            let i = k as usize;
             input[i]
         }
     }
@@ -68,11 +84,13 @@ fn incoming_all(j: Job, input: &[u32], values: &[u32], points: u64, p: Vector, k
 {
     let m = j.m;
     let mut got = [0u32; 4];
+    let mut from = 0;
     let mut s: u8 = 0;
     while s < m {
-        let v = incoming_at(j, input, values, points, s, p, k);
+        let v = incoming_at(j, s, p, k, &input[from..], &values[from..]);
         let i = s as usize;
         got[i] = v;
+        from += points as usize;
         s += 1;
     }
     got

@@ -2,6 +2,7 @@
 use array::lookup::Lookup;
 use array::loops::LoopReply;
 use checks::RunReply;
+use checks::Work;
 use job::Job;
 use reader::Reading;
 use verdict::Extent;
@@ -92,7 +93,14 @@ pub fn run_of_bytes(s: &[u8], input: &[u32], values: &mut [u32], places: &mut [u
     let read = reader::read(s);
     match read {
         Reading::Refused(number) => RunReply::Refused(Verdict::Limit(number)),
-        Reading::Job(j) => array::run_of(j, input, &mut values[..], &mut places[..]),
+        Reading::Job(j) => array::work_out(
+            j,
+            verdict::judged(j),
+            Work::Run,
+            input,
+            &mut values[..],
+            &mut places[..],
+        ),
     }
 }
 
@@ -109,7 +117,14 @@ pub fn tick_of_bytes(
     let read = reader::read(s);
     match read {
         Reading::Refused(number) => RunReply::Refused(Verdict::Limit(number)),
-        Reading::Job(j) => array::tick_of(j, t, input, &mut values[..], &mut places[..]),
+        Reading::Job(j) => array::work_out(
+            j,
+            verdict::judged(j),
+            Work::Tick(t),
+            input,
+            &mut values[..],
+            &mut places[..],
+        ),
     }
 }
 

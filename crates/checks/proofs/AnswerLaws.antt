@@ -1,4 +1,4 @@
--- Laws of the answers: what the checks leave where none fails, and what refuses.
+-- Laws of the answers: what the checks leave where none fails, and a reply that is no tick count refuses.
 use mathlib.Core.Path.{_≡_}
 use mathlib.Core.List.{[], _∷_}
 use Prim.Native.Nat.{ℕ, _≤_}
@@ -7,28 +7,37 @@ use types.Run.{OneOf, miss}
 use denote.Enum.Declared.{tagOf}
 use Rattle.job.specs.declared.Job.{Job}
 use Rattle.job.specs.Refusals.{Checks, First}
-use Rattle.job.proofs.Refusing.{first-passes}
+use Rattle.job.proofs.Refusing.{Numbered, first-passes}
 use Rattle.verdict.specs.Verdicts.{Says}
 use Rattle.verdict.specs.declared.Extent.{Extent}
 use Rattle.verdict.specs.declared.Verdict.the-variants.{Accepted}
 use Rattle.tables.specs.Tables.{Long}
-use Rattle.checks.specs.Answers.{runChecks, Replies, Lacks}
+use Rattle.checks.specs.Answers.{roomLimit, tickChecks, checksOf, numberOf, Besides, Lacks, Granted}
 use Rattle.checks.specs.declared.RunReply.{RunReply}
-use Rattle.checks.proofs.RunReply.{the-type as reply-type}
 use Rattle.checks.specs.declared.RunReply.the-variants.{Ticks, Refused, Tables, Large, Few, Late}
+use Rattle.checks.proofs.RunReply.{the-type as reply-type}
+use Rattle.checks.specs.declared.Work.{Work}
+use Rattle.checks.specs.declared.Work.the-variants.{Run, Tick}
 
--- what the checks leave where none fails
-pub passed : (j : Job) (a b n : ℕ) (z : Extent) → First (runChecks j a b n z) 0 → Long j a b × (z .room ≤ 8192) × (z .room ≤ n)
-passed j a b n z f =
-    let p = first-passes (runChecks j a b n z) ((λ e. omega arith), ((λ e. omega arith), ((λ e. omega arith), tt))) f in
+-- 16 is not 0
+numbered : (work : Work) (n : ℕ) → Numbered (tickChecks work n)
+numbered Run n = tt
+numbered (Tick t) n = ((λ e. omega arith), tt)
+
+pub passed : (work : Work) (j : Job) (a b n : ℕ) (z : Extent) → First (checksOf work j a b n z) 0 → Long j a b × (z .room ≤ roomLimit) × (z .room ≤ n)
+passed work j a b n z f =
+    let p = first-passes (checksOf work j a b n z) ((λ e. omega arith), ((λ e. omega arith), ((λ e. omega arith), numbered work (z .ticks)))) f in
     (p .0, p .1 .0, p .1 .1 .0)
 
--- ---- a refusal of 13 to 15
--- what is lacking is the reply
-pub lacks-refuses : (j : Job) (z : Extent) (checks checks′ : Extent → Checks) (Done Same : Type 0) → Says j (Accepted z) → ((n : ℕ) → (n ≡ 0 → ⊥) → First (checks z) n → First (checks′ z) n) → (r : RunReply) → Lacks checks z r → OneOf (1 ∷ 2 ∷ 3 ∷ 4 ∷ 5 ∷ []) (tagOf reply-type r) → Same → Replies j checks′ Done Same r
-lacks-refuses j z checks checks′ Done Same s pass (Ticks n) l o e = absurd (miss (1 ∷ 2 ∷ 3 ∷ 4 ∷ 5 ∷ []) 0 tt o)
-lacks-refuses j z checks checks′ Done Same s pass (Refused v) l o e = absurd l
-lacks-refuses j z checks checks′ Done Same s pass Tables l o e = (z, record { accepted = s; first = pass 13 (λ h. omega arith) l }, e)
-lacks-refuses j z checks checks′ Done Same s pass (Large r) l o e = (z, record { accepted = s; first = pass 14 (λ h. omega arith) (l .0) }, l .1, e)
-lacks-refuses j z checks checks′ Done Same s pass (Few r) l o e = (z, record { accepted = s; first = pass 15 (λ h. omega arith) (l .0) }, l .1, e)
-lacks-refuses j z checks checks′ Done Same s pass Late l o e = absurd l
+-- a reply that is not the first variant has a number
+not-done : (z : Extent) (r : RunReply) → Besides z r → OneOf (1 ∷ 2 ∷ 3 ∷ 4 ∷ 5 ∷ []) (tagOf reply-type r) → numberOf r ≡ 0 → ⊥
+not-done z (Ticks n) b o e = miss (1 ∷ 2 ∷ 3 ∷ 4 ∷ 5 ∷ []) 0 tt o
+not-done z (Refused v) b o e = absurd b
+not-done z Tables b o e = absurd (omega arith)
+not-done z (Large r) b o e = absurd (omega arith)
+not-done z (Few r) b o e = absurd (omega arith)
+not-done z Late b o e = absurd (omega arith)
+
+-- so what is lacking is the reply, with nothing altered
+pub lacks-refuses : {j : Job} {z : Extent} {checks : Extent → Checks} {Done Same : Type 0} {r : RunReply} → Says j (Accepted z) → Lacks checks z r → OneOf (1 ∷ 2 ∷ 3 ∷ 4 ∷ 5 ∷ []) (tagOf reply-type r) → Same → Granted j checks Done Same r
+lacks-refuses {z = z} {r = r} s l o e = record { extent = z; accepted = s; lacks = l; finished = λ n. absurd (not-done z r (l .besides) o n); same = λ ne. e }

@@ -1,12 +1,22 @@
 // What a run and a single tick answer, and the checks before them.
+use job::Counted;
 use job::Job;
 use verdict::Extent;
 use verdict::Verdict;
+ghost use mathlib.Core.Path.{_≡_};
+ghost use mathlib.Core.Bool.{true, false};
 ghost use Rattle.job.specs.Limits.{Acceptable};
-ghost use Rattle.checks.specs.Answers.{Answers, Lacks, runChecks};
+ghost use Rattle.job.specs.Refusals.{First};
+ghost use Rattle.checks.specs.Answers.{tickChecks, checksOf, countedOf, Lacks};
 
 // 14: 'R over 8,192'.
 const ROOM_LIMIT: u64 = 8192;
+
+// What an array is asked to do: a run, all ticks from cleared places, or one tick.
+pub enum Work {
+    Run,
+    Tick(u64),
+}
 
 // What a run or a tick answers: the tick count; the verdict's refusal; 13; 14 and 15 with R; 16.
 pub enum RunReply {
@@ -18,61 +28,76 @@ pub enum RunReply {
     Late,
 }
 
-// The same in numbers: the number of refusal, 0 for none, and the tick count, or R for 14 and 15.
-pub struct Answer {
-    pub number: u8,
-    pub count: u64,
-}
-
-// What a reply answers.
-pub fn answer_of(r: RunReply) -> Answer
-    ensures { λ a. ⌜ Answers r a ⌝ }
+// The same in numbers: the tick count, or R for 14 and 15.
+pub fn counted(r: RunReply) -> Counted
+    ensures { λ c. ⌜ c ≡ countedOf r ⌝ }
 {
     match r {
-        RunReply::Ticks(n) => Answer {
+        RunReply::Ticks(n) => Counted {
             number: 0,
             count: n,
         },
         RunReply::Refused(v) => {
             let a = verdict::numbers::in_numbers(v);
-            Answer {
+            Counted {
                 number: a.number,
                 count: 0,
             }
         }
-        RunReply::Tables => Answer {
+        RunReply::Tables => Counted {
             number: 13,
             count: 0,
         },
-        RunReply::Large(room) => Answer {
+        RunReply::Large(room) => Counted {
             number: 14,
             count: room,
         },
-        RunReply::Few(room) => Answer {
+        RunReply::Few(room) => Counted {
             number: 15,
             count: room,
         },
-        RunReply::Late => Answer {
+        RunReply::Late => Counted {
             number: 16,
             count: 0,
         },
     }
 }
 
-// The first check of 13 to 15 that tables and places so long do not pass, or the tick count.
-pub fn lacking(j: Job, size: Extent, input: usize, values: usize, places: usize) -> RunReply
+// The first check from 13 on that does not pass, of tables and places so long, or the tick count.
+pub fn lacking(
+    j: Job,
+    extent: Extent,
+    work: Work,
+    input: usize,
+    values: usize,
+    places: usize,
+) -> RunReply
     requires { ⌜ Acceptable j ⌝ }
-    ensures { λ r. ⌜ Lacks (runChecks j input values places) size r ⌝ }
+    ensures { λ r. ⌜ Lacks (checksOf work j input values places) extent r ⌝ }
 {
     let table = tables::size_of(j);
     if !((input == table) & (values == table)) {
         return RunReply::Tables;
     }
-    if ROOM_LIMIT < size.room {
-        return RunReply::Large(size.room);
+    if ROOM_LIMIT < extent.room {
+        return RunReply::Large(extent.room);
     }
-    if (places as u64) < size.room {
-        return RunReply::Few(size.room);
+    if (places as u64) < extent.room {
+        return RunReply::Few(extent.room);
     }
-    RunReply::Ticks(size.ticks)
+    if is_late(work, extent.ticks) {
+        return RunReply::Late;
+    }
+    RunReply::Ticks(extent.ticks)
+}
+
+// Is it a single tick that is not below the tick count?
+fn is_late(work: Work, ticks: u64) -> bool
+    ensures late { λ r. ⌜ (r ≡ true → First (tickChecks work ticks) 16) ⌝ }
+    ensures due { λ r. ⌜ (r ≡ false → First (tickChecks work ticks) 0) ⌝ }
+{
+    match work {
+        Work::Run => false,
+        Work::Tick(t) => ticks <= t,
+    }
 }

@@ -1,8 +1,7 @@
--- Laws of the frame: every point has its tick below the tick count and its cell in the rectangle, the cells are few enough for their product, and a timetable is written tick by tick and in one way.
+-- Laws of the frame: every point has its tick below the tick count and its cell in the rectangle, the rectangle is small, and a timetable is written tick by tick and in one way.
 use mathlib.Core.Path.{_≡_, refl, sym, subst, _∙_}
 use mathlib.Core.List.{List}
-use Prim.Native.Nat.{ℕ, _+_, _*_, _<_, _≤_}
-use native.Mathlib.Nat.{mul-le-mul, mul-one, add-zero, le-trans, le-of-eq}
+use Prim.Native.Nat.{ℕ, _+_, _<_, _≤_}
 use native.Mathlib.Decide.{decLe}
 use native.Mathlib.Omega.{arith}
 use lib.ListN.{length, getD, set, length-set}
@@ -10,31 +9,37 @@ use lib.Seq.{getD-set-same, getD-set-other, ext-getD}
 use lib.IntN.{ℤ}
 use lib.Signed.{_≤ℤ_}
 use borrow.Author.Count.{below-more}
-use Rattle.space.specs.Numbers.{Size, limit, entry, coordinate, steps}
+use Rattle.space.specs.Numbers.{Size, limit, entry, coordinate}
 use Rattle.space.specs.Vectors.{entries, dotOf, Sized}
-use Rattle.space.specs.Boxes.{In, Solid, across, countOf, placeOf, pointOf, leastOf, greatestOf, Least, Greatest, reach}
+use Rattle.space.specs.Boxes.{In, Solid, placeOf, pointOf, leastOf, greatestOf, Least, Greatest}
 use Rattle.space.proofs.Ints.{size-up}
 use Rattle.space.proofs.Machine.{held, held-as}
-use Rattle.space.proofs.BoxLaws.{in-solid, solid-in, point-in, place-below, steps-below}
+use Rattle.space.proofs.BoxLaws.{SidesSized, in-solid, solid-in, point-in, place-below, steps-below}
 use Rattle.space.proofs.ExtremeLaws.{least-is, greatest-is}
 use Rattle.space.proofs.VectorLaws.{sized-up, dot-size}
 use Rattle.job.specs.declared.Job.{Job}
 use Rattle.job.specs.Limits.{Acceptable}
 use Rattle.job.specs.Record.{box, points}
-use Rattle.verdict.specs.Mapping.{H, S}
 use Rattle.job.proofs.Accepting.{solid, row0-sized, row1-sized, in-box-sized}
-use Rattle.verdict.proofs.SizeLaws.{cells-are, across-small}
-use Rattle.frame.specs.Framing.{Timed}
+use Rattle.verdict.specs.Mapping.{H, S}
 use Rattle.verdict.specs.Extents.{rectangle, cells, clock, ticks}
+use Rattle.verdict.specs.Verdicts.{Says}
+use Rattle.verdict.specs.declared.Extent.{Extent}
+use Rattle.verdict.specs.declared.Verdict.the-variants.{Accepted}
+use Rattle.verdict.proofs.Accepted.{accepted-ahead, accepted-even}
+use Rattle.verdict.proofs.SizeLaws.{small-ends}
+use Rattle.bands.specs.Bands.{rectangleOf, Flat}
 use Rattle.frame.specs.Frames.{tickOf, cellOf}
+use Rattle.frame.specs.Framing.{Runnable, Framed, Timed}
+use Rattle.frame.specs.declared.Frame.{Frame}
+
+-- an accepted job may run
+pub accepted-runs : {j : Job} {z : Extent} → Says j (Accepted z) → Runnable j
+accepted-runs s = let a = accepted-ahead s in record { acceptable = a .0; ahead = a .1; even = accepted-even s }
 
 -- a small number that is read back fits where the code steps from one to the other
 pub fits-limit : {z v : ℤ} → v ≡ z → Size 8376324 z → Size limit (held v)
 fits-limit e p = subst (Size limit) (sym (held-as e p tt)) (size-up (omega arith) p)
-
--- a place in two rows, without the ones and zeros of the definition
-flat : (r n c : ℕ) → r * (n * 1) + (c * 1 + 0) ≡ r * n + c
-flat r n c = rw (mul-one n, mul-one c, add-zero c)
 
 module _ (j : Job) (a : Acceptable j) where
   -- ---- the ends of a row of four entries
@@ -67,37 +72,45 @@ module _ (j : Job) (a : Acceptable j) where
       steps-below (clock j .low) (H j (pointOf (box j) k)) (clock j .high) (q .0) (q .1)
 
   -- the rectangle has two ends in each direction
-  pub rectangle-solid : Solid (rectangle j)
+  rectangle-solid : Solid (rectangle j)
   rectangle-solid = in-solid (rectangle j) _ (in-rectangle _ (solid-in (box j) (solid j a)))
 
-  -- ---- the points are small
-  pub point-sized : (k : ℕ) → k < points j → Sized coordinate (pointOf (box j) k)
-  point-sized k lk = in-box-sized j a (point-in (box j) k lk)
+  -- ---- the products of a row with a point are small
+  pub product-sized : (h : List ℤ) → length h ≡ 4 → Sized 127 h → (p : List ℤ) → In (box j) p → Size 8376324 (dotOf h p)
+  product-sized h e z p i = rw e at (dot-size (sized-up {d = entry} (omega arith) z) (in-box-sized j a i))
 
-  -- and so are their products with a row
-  pub product-sized : (h : List ℤ) → length h ≡ 4 → Sized 127 h → (k : ℕ) → k < points j → Size 8376324 (dotOf h (pointOf (box j) k))
-  product-sized h e p k lk = rw e at (dot-size (sized-up {d = entry} (omega arith) p) (point-sized k lk))
+  -- and so are the sides of the rectangle
+  rectangle-sized : SidesSized limit (rectangle j)
+  rectangle-sized =
+      let r = small-ends j a (entries (j .row0)) refl (row0-sized j a) in
+      let q = small-ends j a (entries (j .row1)) refl (row1-sized j a) in
+      (size-up (omega arith) (r .0), size-up (omega arith) (r .1), (size-up (omega arith) (q .0), size-up (omega arith) (q .1), tt))
 
-  -- ---- a cell is its row times the columns, and its column
-  pub cell-is : (k : ℕ) → cellOf j k ≡ steps (leastOf (entries (j .row0)) (box j)) (dotOf (entries (j .row0)) (pointOf (box j) k)) * across (reach (entries (j .row1)) (box j)) + steps (leastOf (entries (j .row1)) (box j)) (dotOf (entries (j .row1)) (pointOf (box j) k))
-  unfolding cellOf placeOf countOf
-  cell-is k = flat _ (across (reach (entries (j .row1)) (box j))) _
-
-  pub cells-small : cells j ≤ 16752649 * 16752649
-  cells-small = le-trans (le-of-eq (cells-are j)) (mul-le-mul (across-small j a (entries (j .row0)) refl (row0-sized j a)) (across-small j a (entries (j .row1)) refl (row1-sized j a)))
+-- the rectangle of a frame is as the bands ask it to be
+pub flat : {f : Frame} → Framed f → Flat (f .rectangle)
+flat {f} F =
+    let j = f .job in
+    let a = F .runnable .acceptable in
+    let s = subst (SidesSized limit) (sym (F .rectangle)) (rectangle-sized j a) in
+    record { rows = (s .0, s .1); columns = (s .2 .0, s .2 .1); solid = subst Solid (sym (F .rectangle)) (rectangle-solid j a) }
 
 -- ---- the timetable
+-- it has the ticks of the first n points
+pub record TimedTo (j : Job) (n : ℕ) (timetable : List ℕ) : Type 0 where
+  pub size : points j ≤ length timetable
+  pub ticks : (k : ℕ) → k < n → getD timetable k 0 ≡ tickOf j k
+
 -- one more tick is written
-pub timed-step : {j : Job} {k v : ℕ} {l : List ℕ} → Timed j k l → k < points j → v ≡ tickOf j k → Timed j (k + 1) (set l k v)
+pub timed-step : {j : Job} {k v : ℕ} {l : List ℕ} → TimedTo j k l → k < points j → v ≡ tickOf j k → TimedTo j (k + 1) (set l k v)
 timed-step {j} {k} {v} {l} T h e = record {
   size = rw (length-set l k v) (T .size);
   ticks = below-more (λ (i : ℕ). getD (set l k v) i 0 ≡ tickOf j i) k (λ i li. getD-set-other l k i v 0 (λ e. omega arith) ∙ T .ticks i li) (getD-set-same l k v 0 (omega (arith, T .size)) ∙ e);
 }
 
 -- one timetable has every tick, and behind them what it had
-pub timetable-unique : (j : Job) (before v w : List ℕ) → Timed j (points j) v → Timed j (points j) w → length v ≡ length before → length w ≡ length before → ((i : ℕ) → points j ≤ i → getD v i 0 ≡ getD before i 0) → ((i : ℕ) → points j ≤ i → getD w i 0 ≡ getD before i 0) → v ≡ w
-timetable-unique j before v w p q ev ew rv rw′ = ext-getD 0 v w (ev ∙ sym ew) (λ i h. by i (decLe (points j) i))
+pub timetable-unique : (f : Frame) (before v w : List ℕ) → Timed f v → Timed f w → length v ≡ length before → length w ≡ length before → ((i : ℕ) → points (f .job) ≤ i → getD v i 0 ≡ getD before i 0) → ((i : ℕ) → points (f .job) ≤ i → getD w i 0 ≡ getD before i 0) → v ≡ w
+timetable-unique f before v w p q ev ew rv rw′ = ext-getD 0 v w (ev ∙ sym ew) (λ i h. by i (decLe (points (f .job)) i))
   where
-    by : (i : ℕ) → Dec (points j ≤ i) → getD v i 0 ≡ getD w i 0
+    by : (i : ℕ) → Dec (points (f .job) ≤ i) → getD v i 0 ≡ getD w i 0
     by i (yes h) = rv i h ∙ sym (rw′ i h)
     by i (no h) = p .ticks i (omega arith) ∙ sym (q .ticks i (omega arith))

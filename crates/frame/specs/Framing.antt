@@ -1,25 +1,34 @@
--- What the frame of a job holds: the ends of its rectangle, its counts, its bands and its timetable; contracts of functions that serve the array, the tick and the look-up cite these.
+-- What the frame of a job holds: its counts, the ends of its rectangle, its bands and its timetable; contracts of functions that serve the array, the tick and the look-up cite these.
 use mathlib.Core.Path.{_≡_}
 use mathlib.Core.List.{List, [], _∷_}
 use Prim.Native.Nat.{ℕ, _<_, _≤_}
 use lib.ListN.{length, getD}
 use Rattle.space.specs.Vectors.{entries}
-use Rattle.space.specs.Boxes.{across, leastOf, reach}
+use Rattle.space.specs.Boxes.{pointOf}
 use Rattle.job.specs.declared.Job.{Job}
+use Rattle.job.specs.Limits.{Acceptable}
 use Rattle.job.specs.Record.{box, points}
 use Rattle.verdict.specs.Mapping.{hop, w}
+use Rattle.verdict.specs.Rules.{Ahead, Even, All}
+use Rattle.verdict.specs.Extents.{rectangle, cells, clock}
 use Rattle.bands.specs.Bands.{rectangleOf, hopOf}
 use Rattle.bands.specs.declared.Band.{Band}
-use Rattle.verdict.specs.Extents.{rectangle, cells, clock, ticks}
-use Rattle.frame.specs.Frames.{tickOf}
+use Rattle.frame.specs.Frames.{tickOf, cellOf, from}
 use Rattle.frame.specs.declared.Frame.{Frame}
 use Rattle.frame.specs.declared.Bands.{Bands}
+use Rattle.frame.specs.declared.Spot.{Spot}
 
--- b is the shape of the band of stream s
+-- what a job that may run has: it keeps the limits, precedence and hop
+pub record Runnable (j : Job) : Type 0 where
+  pub acceptable : Acceptable j
+  pub ahead : All Ahead j
+  pub even : All Even j
+
+-- b is the band of stream s
 pub record Banded (j : Job) (s : ℕ) (b : Band) : Type 0 where
-  pub rectangle : rectangleOf b ≡ rectangle j
-  pub hop : hopOf b ≡ hop j s
+  pub begin : b .from ≡ from j s
   pub delay : b .w ≡ w j s
+  pub hop : hopOf b ≡ hop j s
 
 abbrev pub bandAt : Bands → ℕ → Band
 bandAt bands s = getD (bands .band0 ∷ bands .band1 ∷ bands .band2 ∷ bands .band3 ∷ []) s (bands .band0)
@@ -27,17 +36,22 @@ bandAt bands s = getD (bands .band0 ∷ bands .band1 ∷ bands .band2 ∷ bands 
 abbrev pub AllBanded : Job → Bands → Type 0
 AllBanded j bands = (s : ℕ) → s < j .m → Banded j s (bandAt bands s)
 
--- f holds the numbers of the job's array
-pub record Framed (j : Job) (f : Frame) : Type 0 where
-  pub points : f .points ≡ points j
-  pub start : f .start ≡ clock j .low
-  pub low0 : f .low0 ≡ leastOf (entries (j .row0)) (box j)
-  pub low1 : f .low1 ≡ leastOf (entries (j .row1)) (box j)
-  pub columns : f .columns ≡ across (reach (entries (j .row1)) (box j))
-  pub cells : f .cells ≡ cells j
-  pub bands : AllBanded j (f .bands)
+-- f holds the numbers of its job's array
+pub record Framed (f : Frame) : Type 0 where
+  pub runnable : Runnable (f .job)
+  pub points : f .points ≡ points (f .job)
+  pub start : f .start ≡ clock (f .job) .low
+  pub cells : f .cells ≡ cells (f .job)
+  pub rectangle : rectangleOf (f .rectangle) ≡ rectangle (f .job)
+  pub bands : AllBanded (f .job) (f .bands)
 
--- the first n entries of a timetable are the ticks of the first n points
-pub record Timed (j : Job) (n : ℕ) (timetable : List ℕ) : Type 0 where
-  pub size : points j ≤ length timetable
-  pub ticks : (k : ℕ) → k < n → getD timetable k 0 ≡ tickOf j k
+-- a spot has the point at its place, and its cell
+pub record Stands (f : Frame) (spot : Spot) : Type 0 where
+  pub low : spot .place < points (f .job)
+  pub point : entries (spot .point) ≡ pointOf (box (f .job)) (spot .place)
+  pub cell : spot .cell ≡ cellOf (f .job) (spot .place)
+
+-- a timetable has the tick of every point
+pub record Timed (f : Frame) (timetable : List ℕ) : Type 0 where
+  pub size : points (f .job) ≤ length timetable
+  pub ticks : (k : ℕ) → k < points (f .job) → getD timetable k 0 ≡ tickOf (f .job) k

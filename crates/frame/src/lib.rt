@@ -1,28 +1,25 @@
 // The numbers of a job's array, worked out once: the rectangle of cells, the clock's start, the streams' bands; and the tick and the cell of a point.
 use bands::Band;
+use bands::Rectangle;
 use job::Job;
 use space::Vector;
-use space::boxes::Reach;
 ghost use mathlib.Core.Path.{_≡_};
-ghost use Prim.Native.Nat.{ℕ, _<_, _≤_};
+ghost use Prim.Native.Nat.{ℕ, _+_, _<_, _≤_};
 ghost use lib.ListN.{length, getD};
-ghost use Rattle.space.specs.Numbers.{entry};
 ghost use Rattle.space.specs.Vectors.{entries};
-ghost use Rattle.space.specs.Boxes.{pointOf, Reaches};
-ghost use Rattle.job.specs.Limits.{Acceptable};
+ghost use Rattle.space.specs.Boxes.{In, pointOf};
 ghost use Rattle.job.specs.Record.{box, points as pointsOf};
-ghost use Rattle.verdict.specs.Extents.{cells};
-ghost use Rattle.frame.specs.Frames.{tickOf, cellOf};
-ghost use Rattle.verdict.specs.Rules.{Ahead, All};
-ghost use Rattle.frame.specs.Framing.{Framed, Banded, bandAt, AllBanded, Timed};
+ghost use Rattle.verdict.specs.Extents.{cells as cellsOf};
+ghost use Rattle.frame.specs.Frames.{tickOf, cellOf, from as fromOf};
+ghost use Rattle.frame.specs.Framing.{Runnable, Framed, Banded, bandAt, AllBanded, Stands, Timed};
 
+// A job with the numbers of its array: its point count, the clock's low end, how many cells there are.
 pub struct Frame {
+    pub job: Job,
     pub points: u64,
     pub start: i64,
-    pub low0: i64,
-    pub low1: i64,
-    pub columns: u64,
     pub cells: u64,
+    pub rectangle: Rectangle,
     pub bands: Bands,
 }
 
@@ -34,63 +31,87 @@ pub struct Bands {
     pub band3: Band,
 }
 
+// A point on its way through a tick: its place in box order, and its cell.
+pub struct Spot {
+    pub point: Vector,
+    pub place: u64,
+    pub cell: u64,
+}
+
 // The frame of a job.
 pub fn frame_of(j: Job) -> Frame
-    requires { ⌜ Acceptable j × All Ahead j ⌝ }
-    ensures { λ r. ⌜ Framed j r ⌝ }
+    requires { ⌜ Runnable j ⌝ }
+    ensures is { λ r. ⌜ r .job ≡ j ⌝ }
+    ensures framed { λ r. ⌜ Framed r ⌝ }
 {
     let b = j.bounds;
-    let first = space::boxes::reach_of(j.row0, b);
-    let second = space::boxes::reach_of(j.row1, b);
+    let rows = space::boxes::reach_of(j.row0, b);
+    let columns = space::boxes::reach_of(j.row1, b);
     let clock = space::boxes::reach_of(j.time, b);
+    let cells = rows.count * columns.count;
     Frame {
+        job: j,
         points: space::boxes::count(b),
         start: clock.low,
-        low0: first.low,
-        low1: second.low,
-        columns: second.count,
-        cells: first.count * second.count,
-        bands: bands_of(j, first, second),
+        cells,
+        rectangle: Rectangle {
+            low0: rows.low,
+            high0: rows.high,
+            low1: columns.low,
+            high1: columns.high,
+        },
+        bands: bands_of(j, cells),
     }
 }
 
-// The tick of p, the point at place k.
-pub fn tick_at(j: Job, f: Frame, p: Vector, k: u64) -> u64
-    requires { ⌜ Acceptable j × Framed j f × (k < pointsOf j) × (entries p ≡ pointOf (box j) k) ⌝ }
-    ensures { λ r. ⌜ r ≡ tickOf j k ⌝ }
+// The tick of a point of the box.
+pub fn tick_at(f: Frame, p: Vector) -> u64
+    requires { ⌜ Framed f × In (box (f .job)) (entries p) ⌝ }
+    ensures { λ r. ⌜ ((k : ℕ) → entries p ≡ pointOf (box (f .job)) k → r ≡ tickOf (f .job) k) ⌝ }
 {
-    let h = j.time;
-    space::boxes::steps_above(f.start, space::dot(h, p))
+    space::boxes::steps_above(f.start, space::dot(f.job.time, p))
 }
 
-// The cell of p, the point at place k.
-pub fn cell_at(j: Job, f: Frame, p: Vector, k: u64) -> u64
-    requires { ⌜ Acceptable j × Framed j f × (k < pointsOf j) × (entries p ≡ pointOf (box j) k) ⌝ }
-    ensures is { λ r. ⌜ r ≡ cellOf j k ⌝ }
-    ensures inside { λ r. ⌜ r < cells j ⌝ }
+// The cell of a point of the box.
+pub fn cell_at(f: Frame, p: Vector) -> u64
+    requires { ⌜ Framed f × In (box (f .job)) (entries p) ⌝ }
+    ensures { λ r. ⌜ ((k : ℕ) → entries p ≡ pointOf (box (f .job)) k → r ≡ cellOf (f .job) k) ⌝ }
 {
-    let v = verdict::course::time_and_place(j, p);
-    let row = space::boxes::steps_above(f.low0, v.x1);
-    row * f.columns + space::boxes::steps_above(f.low1, v.x2)
+    let v = verdict::course::time_and_place(f.job, p);
+    bands::number_of(f.rectangle, v.x1, v.x2)
+}
+
+// The point at place k.
+pub fn spot_at(f: Frame, k: u64) -> Spot
+    requires { ⌜ Framed f × (k < pointsOf (f .job)) ⌝ }
+    ensures is { λ r. ⌜ r .place ≡ k ⌝ }
+    ensures stands { λ r. ⌜ Stands f r ⌝ }
+{
+    let p = space::boxes::point(f.job.bounds, k);
+    Spot {
+        point: p,
+        place: k,
+        cell: cell_at(f, p),
+    }
 }
 
 // As many entries as a job may have points.
 pub const TIMETABLE: usize = 1024;
 
 // The tick of every point, in box order.
-pub fn fill_timetable(j: Job, f: Frame, timetable: &mut [u64])
-    requires { ⌜ Acceptable j × Framed j f × (pointsOf j ≤ length (now timetable)) ⌝ }
-    ensures timed { λ _. ⌜ Timed j (pointsOf j) (now (timetable .exit)) ⌝ }
+pub fn fill_timetable(f: Frame, timetable: &mut [u64])
+    requires { ⌜ Framed f × (pointsOf (f .job) ≤ length (now timetable)) ⌝ }
+    ensures timed { λ _. ⌜ Timed f (now (timetable .exit)) ⌝ }
     ensures size { λ _. ⌜ length (now (timetable .exit)) ≡ length (now (timetable .entry)) ⌝ }
-    ensures rest { λ _. ⌜ ((i : ℕ) → pointsOf j ≤ i → getD (now (timetable .exit)) i 0 ≡ getD (now (timetable .entry)) i 0) ⌝ }
+    ensures rest { λ _. ⌜ ((i : ℕ) → pointsOf (f .job) ≤ i → getD (now (timetable .exit)) i 0 ≡ getD (now (timetable .entry)) i 0) ⌝ }
 {
     let points = f.points;
-    let b = j.bounds;
+    let b = f.job.bounds;
     let mut p = space::boxes::point(b, 0);
     let mut k: u64 = 0;
     while k < points {
         let i = k as usize;
-        timetable[i] = tick_at(j, f, p, k);
+        timetable[i] = tick_at(f, p);
         p = space::boxes::next(b, p);
         k += 1;
     }
@@ -109,43 +130,46 @@ pub fn band_at(bands: Bands, s: u8) -> Band
     }
 }
 
-// The bands of all streams, in a rectangle of such rows and columns.
-fn bands_of(j: Job, rows: Reach, columns: Reach) -> Bands
-    requires { ⌜ Acceptable j × All Ahead j × Reaches (entries (j .row0)) (box j) rows × Reaches (entries (j .row1)) (box j) columns ⌝ }
+// The bands of all streams, one behind the other, of so many cells each.
+fn bands_of(j: Job, cells: u64) -> Bands
+    requires { ⌜ Runnable j × (cells ≡ cellsOf j) ⌝ }
     ensures { λ r. ⌜ AllBanded j r ⌝ }
 {
-    let m = j.m;
+    let band0 = band_of(j, 0, 0);
+    let band1 = band_after(j, cells, 0, band0);
+    let band2 = band_after(j, cells, 1, band1);
+    let band3 = band_after(j, cells, 2, band2);
     Bands {
-        band0: band_of(j, rows, columns, 0),
-        band1: band_of(j, rows, columns, or_first(1, m)),
-        band2: band_of(j, rows, columns, or_first(2, m)),
-        band3: band_of(j, rows, columns, or_first(3, m)),
+        band0,
+        band1,
+        band2,
+        band3,
     }
 }
 
-// s, or 0 where there is no such stream.
-fn or_first(s: u8, m: u8) -> u8
-    requires { ⌜ 0 < m ⌝ }
-    ensures inside { λ r. ⌜ r < m ⌝ }
-    ensures is { λ r. ⌜ (s < m → r ≡ s) ⌝ }
+// The band behind b, that of stream s; b again where there is no further stream.
+fn band_after(j: Job, cells: u64, s: u8, b: Band) -> Band
+    requires { ⌜ Runnable j × (cells ≡ cellsOf j) × (s < 4) × (s < j .m → Banded j s b) ⌝ }
+    ensures { λ r. ⌜ (s + 1 < j .m → Banded j (s + 1) r) ⌝ }
 {
-    if s < m { s } else { 0 }
+    if s + 1 < j.m {
+        band_of(j, s + 1, b.from + cells * b.w)
+    } else {
+        b
+    }
 }
 
-// The band of stream s.
-fn band_of(j: Job, rows: Reach, columns: Reach, s: u8) -> Band
-    requires { ⌜ Acceptable j × All Ahead j × Reaches (entries (j .row0)) (box j) rows × Reaches (entries (j .row1)) (box j) columns × (s < j .m) ⌝ }
+// The band of stream s, which begins at a place of the room.
+fn band_of(j: Job, s: u8, from: u64) -> Band
+    requires { ⌜ Runnable j × (s < j .m) × (from ≡ fromOf j s) ⌝ }
     ensures { λ r. ⌜ Banded j s r ⌝ }
 {
     let c = verdict::course::course_of(j, s);
     let unit = c.unit;
     Band {
-        low0: rows.low,
-        high0: rows.high,
-        low1: columns.low,
-        high1: columns.high,
+        from,
+        w: space::divisor::size(unit.x0),
         hop0: unit.x1,
         hop1: unit.x2,
-        w: space::divisor::size(unit.x0),
     }
 }

@@ -25,7 +25,7 @@ Each Q done = Unit {0}
 Each Q (check n P rest) = Q n × Each Q rest
 
 -- no number of a check is 0
-abbrev Numbered : Checks → Type 0
+abbrev pub Numbered : Checks → Type 0
 Numbered = Each (λ (n : ℕ). (n ≡ 0 → ⊥))
 
 passes-first : (cs : Checks) → Passes cs → First cs 0

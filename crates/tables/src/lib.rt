@@ -5,9 +5,9 @@ use job::Job;
 use space::Vector;
 use space::boxes::Found;
 ghost use mathlib.Core.Path.{_≡_};
-ghost use Prim.Native.Nat.{_+_, _*_, _<_, _≤_};
+ghost use Prim.Native.Nat.{ℕ, _+_, _*_, _<_, _≤_};
 ghost use Rattle.space.specs.Vectors.{entries};
-ghost use Rattle.space.specs.Boxes.{pointOf, foundOf};
+ghost use Rattle.space.specs.Boxes.{In, pointOf, foundOf};
 ghost use Rattle.job.specs.Limits.{Acceptable};
 ghost use Rattle.job.specs.Record.{box, points as pointsOf};
 ghost use Rattle.tables.specs.Tables.{previous};
@@ -31,10 +31,10 @@ pub fn size_of(j: Job) -> usize
     place_in_table(j.m, space::boxes::count(j.bounds), 0)
 }
 
-// The place of the point before p, the point at place k, on stream s.
-pub fn previous_at(j: Job, s: u8, p: Vector, k: u64) -> Found
-    requires { ⌜ Acceptable j × (s < j .m) × (k < pointsOf j) × (entries p ≡ pointOf (box j) k) ⌝ }
-    ensures { λ r. ⌜ foundOf r ≡ previous j s k ⌝ }
+// The place of the point before p, a point of the box, on stream s.
+pub fn previous_at(j: Job, s: u8, p: Vector) -> Found
+    requires { ⌜ Acceptable j × (s < j .m) × In (box j) (entries p) ⌝ }
+    ensures { λ r. ⌜ ((k : ℕ) → entries p ≡ pointOf (box j) k → foundOf r ≡ previous j s k) ⌝ }
 {
     let stream = job::stream_at(j, s);
     space::boxes::back(j.bounds, stream.d, p)

@@ -19,36 +19,35 @@ behind-requires c κs = search needs
 enum-known-found : tie.Need-enum-known-found
 enum-known-found c = search needs
 
--- the cell that was found
-found : (c : tie.After-struct-known) → backOf (rectangleOf (c .before .before .before .before .before .before .args .b)) (hopOf (c .before .before .before .before .before .before .args .b)) (c .before .before .before .before .before .before .args .x) ≡ some (c .before .before .found .given .0 .0)
-found c = sym (c .before .before .before .before .behind .ensures) ∙ ap foundOf (c .before .before .found .given .1)
+-- a cell y was found
+module _ (c : tie.After-found) where
+  abbrev start : tie.Start
+  start = c .before .before .before .before
 
--- its place
-there : (c : tie.After-struct-known)
-    → (c .before .before .found .given .0 .0 * c .before .before .before .before .before .before .args .b .w + c .before .before .before .before .before .before .args .slot < length (now (c .before .before .before .before .before .before .args .places)))
-    × (c .before .before .found .given .0 .0 * c .before .before .before .before .before .before .args .b .w + c .before .before .before .before .before .before .args .slot < 8192)
-there c =
-    let b = c .before .before .before .before .before .before .args .b in
-    let y = c .before .before .found .given .0 .0 in
-    its-place (c .before .before .before .before .before .before .pre .0) y (back-below (rectangleOf b) (hopOf b) (c .before .before .before .before .before .before .args .x) y (found c))
+  is : backOf (rectangleOf (start .args .r)) (hopOf (start .args .b)) (start .args .x) ≡ some (c .found .given .0 .0)
+  is = sym (c .before .before .behind .ensures) ∙ ap foundOf (c .found .given .1)
+
+  -- its place
+  there : c .found .given .0 .0 * start .args .b .w + start .args .slot < length (now (start .args .places))
+  there = its-place (start .pre .0) (c .found .given .0 .0) (back-below (rectangleOf (start .args .r)) (hopOf (start .args .b)) (start .args .x) (c .found .given .0 .0) is)
 
 mul-i : tie.Need-mul-i
-mul-i c = let i = there c in omega arith
+mul-i c = let i = there (c .before .before) in omega arith
 
 add-i : tie.Need-add-i
-add-i c = let i = there c in omega arith
+add-i c = let i = there (c .before .before) in omega arith
 
 mul-result : tie.Need-mul-result
-mul-result c = let i = there c in omega arith
+mul-result c = let i = there (c .before .before) in omega arith
 
 shared-slice-read-result : tie.Need-shared-slice-read-result
-shared-slice-read-result c = there (c .before) .0
+shared-slice-read-result c = there (c .before .before .before)
 
 enum-told : tie.Need-enum-told
 enum-told c = search needs
 
 returns : tie.Need-returns
-returns c = let e = found (c .before) in rw e
+returns c = let e = is (c .before .before .before) in rw e
 
 returns-2 : tie.Need-returns-2
 returns-2 c = let e = sym (c .before .before .behind .ensures) ∙ ap foundOf (c .enum-told .given .1) in rw e

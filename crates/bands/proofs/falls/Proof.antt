@@ -17,17 +17,21 @@ zero x e = omega int
 
 returns : tie.Need-returns
 returns c =
-    let b = c .before .before .before .before .before .args .b in
-    let f = fit (arg (c .before .before .before .before .before .pre .first .2) tt) in
-    let ne : up (b .hop0) ≡ down (b .hop0) → ⊥ = λ e. c .before .before .if1 .taken (ap (ofZ w64) (zero (b .hop0) e)) in
-    (λ e. goes-down b (inl (omega tests)), λ e. goes-up b (inl (omega tests)))
+    let tested = c .before .before in
+    let s = tested .before .before .before in
+    let b = s .args .b in
+    let f = fit (arg (s .pre .rows) tt) in
+    let ne : up (b .hop0) ≡ down (b .hop0) → ⊥ = λ e. tested .if1 .taken (ap (ofZ w64) (zero (b .hop0) e)) in
+    record { down = λ e r x y lx g. goes-down b r x y lx g (inl (omega tests)); up = λ e r x y lx g. goes-up b r x y lx g (inl (omega tests)) }
 
 returns-2 : tie.Need-returns-2
 returns-2 c =
-    let b = c .before .before .before .before .before .args .b in
-    let f = fit (arg (c .before .before .before .before .before .pre .second .2) tt) in
-    let z = zero-bits (fit (arg (c .before .before .before .before .before .pre .first .2) tt)) (c .before .before .if1 .left) in
-    (λ e. goes-down b (inr (z, omega tests)), λ e. goes-up b (inr (z, omega tests)))
+    let tested = c .before .before in
+    let s = tested .before .before .before in
+    let b = s .args .b in
+    let f = fit (arg (s .pre .columns) tt) in
+    let z = zero-bits (fit (arg (s .pre .rows) tt)) (tested .if1 .left) in
+    record { down = λ e r x y lx g. goes-down b r x y lx g (inr (z, omega tests)); up = λ e r x y lx g. goes-up b r x y lx g (inr (z, omega tests)) }
 
 pub falls-spec : {M : Type 1} → statement M
 falls-spec = tie.close (tie.spec returns returns-2)

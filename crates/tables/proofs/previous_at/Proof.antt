@@ -7,7 +7,6 @@ use Rattle.space.specs.Boxes.{backOf}
 use Rattle.job.specs.declared.Stream.{Stream}
 use Rattle.job.specs.Record.{box}
 use Rattle.job.proofs.Accepting.{walkable, along-sized}
-use Rattle.space.proofs.BoxLaws.{stands-in}
 use Rattle.tables.proofs.previous_at.Statement.{statement}
 use Rattle.tables.proofs.previous_at.Tie as tie
 
@@ -19,12 +18,12 @@ back-requires c κs =
     let a = c .before .args in
     let p = c .before .pre in
     let w = walkable (p .0) in
-    (w .0, w .1, subst (λ (t : Stream). Sized difference (entries (t .d))) (sym (c .stream-at .ensures)) (along-sized (a .j) (p .0) (a .s) (p .1)), stands-in _ (a .k) (p .2) (p .3))
+    (w .0, w .1, subst (λ (t : Stream). Sized difference (entries (t .d))) (sym (c .stream-at .ensures)) (along-sized (a .j) (p .0) (a .s) (p .1)), p .2)
 
 returns : tie.Need-returns
 returns c =
     let a = c .before .before .args in
-    c .back .ensures (a .k) (c .before .before .pre .3) ∙ ap (λ (t : Stream). backOf (box (a .j)) (entries (t .d)) (a .k)) (c .before .stream-at .ensures)
+    λ k e. c .back .ensures k e ∙ ap (λ (t : Stream). backOf (box (a .j)) (entries (t .d)) k) (c .before .stream-at .ensures)
 
 pub previous-at-spec : {M : Type 1} → statement M
 previous-at-spec = tie.close (tie.spec stream-at-requires back-requires returns)

@@ -21,72 +21,74 @@ abbrev μ-loop : tie.MeasureT-loop
 loop-holds : tie.Need-loop-holds Inv-loop μ-loop
 loop-holds c = let a = c .before .args in (omega arith, column-start (a .j) (a .k) (a .got) (now (a .values)) (c .before .pre .0 .size))
 
+-- a stream below m
+module _ (c : tie.In-loop Inv-loop μ-loop) where
+  abbrev start : tie.Start Inv-loop μ-loop
+  start = c .before .before .before
+
+  abbrev s : ℕ
+  s = c .before .loop .s
+
+  small : s < 4
+  small = omega (arith, few-streams (start .pre .0 .good), c .loop-test .taken)
+
+  low : start .args .k < points (start .args .j)
+  low = omega (arith, start .pre .0 .count, start .pre .1)
+
+-- the turn of a stream, from its place in the table
+abbrev turn : tie.After-place-in-table Inv-loop μ-loop → tie.In-loop Inv-loop μ-loop
+turn c = c .before .before .before
+
 stream-at-requires : tie.Need-stream-at-requires Inv-loop μ-loop
-stream-at-requires c κs = let m = few-streams (c .before .before .before .pre .0 .good) in omega (arith, c .loop-test .taken)
+stream-at-requires c κs = small c
 
 cast-new-value : tie.Need-cast-new-value Inv-loop μ-loop
-cast-new-value c = let m = few-streams (c .before .before .before .before .pre .0 .good) in omega (arith, c .before .loop-test .taken)
+cast-new-value c = omega (arith, small (c .before))
 
 new-value-requires : tie.Need-new-value-requires Inv-loop μ-loop
 new-value-requires c κs =
-    let j = c .before .before .before .before .args .j in
-    let m = few-streams (c .before .before .before .before .pre .0 .good) in
-    let q = subst (λ (t : Stream). (t .a < j .m) × (t .b < j .m)) (sym (c .stream-at .ensures)) (sources j (c .before .before .before .before .pre .0 .good) (c .before .before .loop .s) (c .before .loop-test .taken)) in
-    (omega (arith, c .before .loop-test .taken), omega (arith, q .0), omega (arith, q .1))
+    let at = c .before in
+    let j = start at .args .j in
+    let good = start at .pre .0 .good in
+    let m = few-streams good in
+    let q = subst (λ (t : Stream). (t .a < j .m) × (t .b < j .m)) (sym (c .stream-at .ensures)) (sources j good (s at) (at .loop-test .taken)) in
+    (small at, omega (arith, q .0), omega (arith, q .1))
 
 place-in-table-requires : tie.Need-place-in-table-requires Inv-loop μ-loop
 place-in-table-requires c κs =
-    let turn = c .before .before in
-    let start = turn .before .before .before in
-    let p = start .pre in
-    let m = few-streams (p .0 .good) in
-    let n = few-points (p .0 .good) in
-    (omega (arith, turn .loop-test .taken), omega (arith, p .0 .count), omega (arith, p .0 .count, p .1))
-
--- moments of the walk: where the loop is reached; where the function starts
-abbrev at-loop : tie.After-place-in-table Inv-loop μ-loop → tie.At-loop Inv-loop μ-loop
-at-loop c = c .before .before .before .before
-
-abbrev start : tie.After-place-in-table Inv-loop μ-loop → tie.Start Inv-loop μ-loop
-start c = at-loop c .before .before
+    let at = c .before .before in
+    let n = few-points (start at .pre .0 .good) in
+    (omega (arith, small at), omega (arith, start at .pre .0 .count), omega (arith, low at))
 
 -- where it is written
-at : (c : tie.After-place-in-table Inv-loop μ-loop) → c .place-in-table .result ≡ at-loop c .loop .s * points (start c .args .j) + start c .args .k
-at c = place-as (start c .args .j) _ _ (c .place-in-table .ensures .1) (start c .pre .0 .count)
-
-low : (c : tie.After-place-in-table Inv-loop μ-loop) → start c .args .k < points (start c .args .j)
-low c = omega (arith, start c .pre .0 .count, start c .pre .1)
+at : (c : tie.After-place-in-table Inv-loop μ-loop) → c .place-in-table .result ≡ s (turn c) * points (start (turn c) .args .j) + start (turn c) .args .k
+at c = place-as (start (turn c) .args .j) _ _ (c .place-in-table .ensures .1) (start (turn c) .pre .0 .count)
 
 mul-values : tie.Need-mul-values Inv-loop μ-loop
 mul-values c = omega (arith, c .place-in-table .ensures .0)
 
 slice-write-values : tie.Need-slice-write-values Inv-loop μ-loop
 slice-write-values c =
-    let at-loop = at-loop c in
-    let args = at-loop .before .before .args in
-    omega (arith, at c, entry-in (args .j) (at-loop .loop .s) (args .k) (c .before .before .before .loop-test .taken) (low c), at-loop .loop .inv .1 .size)
+    let a = start (turn c) .args in
+    omega (arith, at c, entry-in (a .j) (s (turn c)) (a .k) (turn c .loop-test .taken) (low (turn c)), turn c .before .loop .inv .1 .size)
 
 add-s : tie.Need-add-s Inv-loop μ-loop
-add-s c =
-    let turn = c .before .before .before in
-    let m = few-streams (start c .pre .0 .good) in omega (arith, turn .loop-test .taken)
+add-s c = omega (arith, small (turn c))
 
 loop-less : tie.Need-loop-less Inv-loop μ-loop
 loop-less c = omega arith
 
 -- what is written is the new value
-new : (c : tie.After-place-in-table Inv-loop μ-loop) → c .before .new-value .result ≡ work (start c .args .j) (at-loop c .loop .s) (λ (u : ℕ). getD (start c .args .got) u 0)
+new : (c : tie.After-place-in-table Inv-loop μ-loop) → c .before .new-value .result ≡ work (start (turn c) .args .j) (s (turn c)) (λ (u : ℕ). getD (start (turn c) .args .got) u 0)
 new c =
-    let at-loop = at-loop c in
-    let args = at-loop .before .before .args in
-    c .before .new-value .ensures ∙ ap (λ (t : Stream). ruled (t .rule) (getD (args .got) (at-loop .loop .s) 0) (getD (args .got) (t .a) 0) (getD (args .got) (t .b) 0)) (c .before .before .stream-at .ensures)
+    let got = start (turn c) .args .got in
+    c .before .new-value .ensures ∙ ap (λ (t : Stream). ruled (t .rule) (getD got (s (turn c)) 0) (getD got (t .a) 0) (getD got (t .b) 0)) (c .before .before .stream-at .ensures)
 
 loop-again : tie.Need-loop-again Inv-loop μ-loop
 loop-again c =
-    let turn = c .before .before .before in
-    let a = start c .args in
-    let l = turn .before .loop in
-    (omega (arith, turn .loop-test .taken), subst (λ i. Column (a .j) (a .k) (a .got) (now (a .values)) (l .s + 1) (set (l .values) i (c .before .new-value .result))) (sym (at c)) (column-step (a .j) (a .k) (a .got) (now (a .values)) (l .values) (l .s) (c .before .new-value .result) (l .inv .1) (turn .loop-test .taken) (low c) (new c)))
+    let a = start (turn c) .args in
+    let l = turn c .before .loop in
+    (omega (arith, turn c .loop-test .taken), subst (λ i. Column (a .j) (a .k) (a .got) (now (a .values)) (l .s + 1) (set (l .values) i (c .before .new-value .result))) (sym (at c)) (column-step (a .j) (a .k) (a .got) (now (a .values)) (l .values) (l .s) (c .before .new-value .result) (l .inv .1) (turn c .loop-test .taken) (low (turn c)) (new c)))
 
 same-length : tie.Need-same-length Inv-loop μ-loop
 same-length c = c .before .loop .inv .1 .size ∙ sym (c .before .before .before .pre .0 .size)

@@ -1,83 +1,60 @@
--- The entry at the place before, which stands before k, or the input's at k.
+-- What stands at the place before, which stands before k, or the input's entry at k.
 use mathlib.Core.Path.{_≡_, sym, ap, _∙_}
 use mathlib.Core.Option.{some}
-use Prim.Native.Nat.{_+_, _*_, _<_}
+use Prim.Native.Nat.{_<_}
 use native.Mathlib.Omega.{arith}
-use lib.ListN.{getD}
-use denote.Ref.{now}
 use borrow.Author.Needs.{needs}
 use Rattle.job.specs.Record.{points}
 use Rattle.tables.specs.Tables.{previous}
 use Rattle.space.specs.Boxes.{foundOf}
-use Rattle.tables.proofs.TableLaws.{few-streams, few-points, entry-in, place-as, previous-before}
-use Rattle.array.proofs.LoopLaws.{incoming-some, incoming-none}
+use Rattle.space.proofs.BoxLaws.{stands-in}
+use Rattle.tables.proofs.TableLaws.{few-points, previous-before}
 use Rattle.array.proofs.loops.incoming_at.Statement.{statement}
 use Rattle.array.proofs.loops.incoming_at.Tie as tie
 
 previous-at-requires : tie.Need-previous-at-requires
-previous-at-requires c κs = let p = c .before .before .pre in (p .0 .good, p .2, omega (arith, p .0 .count, p .3), p .4)
+previous-at-requires c κs = let q = c .before .before .pre in (q .0, q .1, stands-in _ (c .before .before .args .k) (q .4) (q .5))
 
 enum-known-found : tie.Need-enum-known-found
 enum-known-found c = search needs
 
--- the place that was found, and that it stands before k
-found : (c : tie.After-known-told) → previous (c .before .before .before .before .before .before .args .j) (c .before .before .before .before .before .before .args .s) (c .before .before .before .before .before .before .args .k) ≡ some (c .before .found .given .0 .0)
-found c = sym (c .before .before .before .previous-at .ensures) ∙ ap foundOf (c .before .found .given .1)
+-- the place before was found, and it stands before k
+module _ (c : tie.After-found) where
+  abbrev start : tie.Start
+  start = c .before .before .before .before .before
 
-low : (c : tie.After-known-told) → c .before .found .given .0 .0 < points (c .before .before .before .before .before .before .args .j)
-low c =
-    let a = c .before .before .before .before .before .before .args in
-    let p = c .before .before .before .before .before .before .pre in
-    let k : a .k < points (a .j) = omega (arith, p .0 .count, p .3) in
-    omega (arith, previous-before (a .j) (p .0 .good) (a .s) (a .k) (c .before .found .given .0 .0) (p .2) k (found c))
+  is : previous (start .args .j) (start .args .s) (start .args .k) ≡ some (c .found .given .0 .0)
+  is = sym (c .before .before .previous-at .ensures (start .args .k) (start .pre .5)) ∙ ap foundOf (c .found .given .1)
 
-place-in-table-requires : tie.Need-place-in-table-requires
-place-in-table-requires c κs =
-    let p = c .before .before .before .before .before .before .pre in
-    let m = few-streams (p .0 .good) in
-    let n = few-points (p .0 .good) in
-    (omega (arith, p .2), omega (arith, p .0 .count), omega (arith, low c))
-
--- where it is read
-at : (c : tie.After-place-in-table) → c .place-in-table .result ≡ c .before .before .before .before .before .before .before .args .s * points (c .before .before .before .before .before .before .before .args .j) + c .before .before .found .given .0 .0
-at c = place-as (c .before .before .before .before .before .before .before .args .j) _ _ (c .place-in-table .ensures .1) (c .before .before .before .before .before .before .before .pre .0 .count)
+  low : c .found .given .0 .0 < points (start .args .j)
+  low =
+      let q = start .pre in
+      omega (arith, q .4, previous-before (start .args .j) (q .0) (start .args .s) (start .args .k) (c .found .given .0 .0) (q .1) (q .4) is)
 
 mul-result : tie.Need-mul-result
-mul-result c = omega (arith, c .place-in-table .ensures .0)
+mul-result c = omega (arith, low (c .before), few-points (start (c .before) .pre .0))
 
 shared-slice-read-result : tie.Need-shared-slice-read-result
-shared-slice-read-result c =
-    let a = c .before .before .before .before .before .before .before .before .args in
-    let p = c .before .before .before .before .before .before .before .before .pre in
-    omega (arith, at (c .before), entry-in (a .j) (a .s) (c .before .before .before .found .given .0 .0) (p .2) (low (c .before .before)), p .1 .size)
+shared-slice-read-result c = let f = c .before .before in omega (arith, low f, start f .pre .3 .long)
 
 enum-told : tie.Need-enum-told
 enum-told c = search needs
 
-place-in-table-requires-2 : tie.Need-place-in-table-requires-2
-place-in-table-requires-2 c κs = search needs
-
-at-2 : (c : tie.After-place-in-table2) → c .place-in-table2 .result ≡ c .before .before .before .before .before .before .args .s * points (c .before .before .before .before .before .before .args .j) + c .before .before .before .before .before .before .args .k
-at-2 c = place-as (c .before .before .before .before .before .before .args .j) _ _ (c .place-in-table2 .ensures .1) (c .before .before .before .before .before .before .pre .0 .count)
-
 mul-result-2 : tie.Need-mul-result-2
-mul-result-2 c = omega (arith, c .place-in-table2 .ensures .0)
+mul-result-2 c = search needs
 
 shared-slice-read-result-2 : tie.Need-shared-slice-read-result-2
-shared-slice-read-result-2 c =
-    let a = c .before .before .before .before .before .before .before .args in
-    let p = c .before .before .before .before .before .before .before .pre in
-    omega (arith, at-2 (c .before), entry-in (a .j) (a .s) (a .k) (p .2) (omega (arith, p .0 .count, p .3)), p .0 .size)
+shared-slice-read-result-2 c = search needs
 
 returns : tie.Need-returns
-returns c =
-    let a = c .before .before .before .before .before .before .before .before .args in
-    ap (λ i. getD (now (a .values)) i 0) (at (c .before)) ∙ incoming-some (a .j) (now (a .input)) (now (a .values)) (a .s) (a .k) (c .before .before .before .found .given .0 .0) (found (c .before .before))
+returns c = let e = is (c .before .before) in rw e
 
 returns-2 : tie.Need-returns-2
 returns-2 c =
-    let a = c .before .before .before .before .before .before .before .args in
-    ap (λ i. getD (now (a .input)) i 0) (at-2 (c .before)) ∙ incoming-none (a .j) (now (a .input)) (now (a .values)) (a .s) (a .k) (sym (c .before .before .before .before .previous-at .ensures) ∙ ap foundOf (c .before .before .enum-told .given .1))
+    let previous = c .before .before .before in
+    let start = previous .before .before .before in
+    let e = sym (previous .previous-at .ensures (start .args .k) (start .pre .5)) ∙ ap foundOf (c .before .enum-told .given .1) in
+    rw e
 
 pub incoming-at-spec : {M : Type 1} → statement M
-incoming-at-spec = tie.close (tie.spec previous-at-requires enum-known-found place-in-table-requires mul-result shared-slice-read-result enum-told place-in-table-requires-2 mul-result-2 shared-slice-read-result-2 returns returns-2)
+incoming-at-spec = tie.close (tie.spec previous-at-requires enum-known-found mul-result shared-slice-read-result enum-told mul-result-2 shared-slice-read-result-2 returns returns-2)

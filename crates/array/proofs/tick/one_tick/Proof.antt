@@ -10,9 +10,10 @@ work-requires c κs = search needs
 
 store-requires : tie.Need-store-requires
 store-requires c κs =
-    let p = c .before .before .before .before .before .before .before .before .before .before .before .pre in
-    let e = c .before .before .before .before .work .ensures .size in
-    (record { runnable = p .1 .runnable; framed = p .1 .framed; size = e ∙ p .1 .size }, p .2, p .3)
+    let worked = c .before .before .before .before in
+    let lent = worked .before .before .before in
+    let q = lent .before .before .before .before .pre in
+    (record { framed = q .1 .framed; size = worked .work .ensures .size ∙ q .1 .size }, q .2, q .3)
 
 same-length : tie.Need-same-length
 same-length c = search needs
@@ -21,7 +22,10 @@ same-length-2 : tie.Need-same-length-2
 same-length-2 c = search needs
 
 returns : tie.Need-returns
-returns c = tick-whole (c .before .before .before .before .before .before .before .work .ensures) (c .before .before .store .ensures)
+returns c =
+    let stored = c .before .before in
+    let given = stored .before in
+    tick-whole (given .before .before .before .before .work .ensures) (stored .store .ensures)
 
 pub one-tick-spec : {M : Type 1} → statement M
 one-tick-spec = tie.close (tie.spec work-requires store-requires same-length same-length-2 returns)
