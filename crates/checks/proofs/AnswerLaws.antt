@@ -1,5 +1,6 @@
 -- Laws of the answers: what the checks leave where none fails, and a reply that is no tick count refuses.
 use mathlib.Core.Path.{_≡_}
+use mathlib.Core.Logic.{inl, inr}
 use mathlib.Core.List.{[], _∷_}
 use Prim.Native.Nat.{ℕ, _≤_}
 use native.Mathlib.Omega.{arith}
@@ -12,7 +13,7 @@ use Rattle.verdict.specs.Verdicts.{Says}
 use Rattle.verdict.specs.declared.Extent.{Extent}
 use Rattle.verdict.specs.declared.Verdict.the-variants.{Accepted}
 use Rattle.tables.specs.Tables.{Long}
-use Rattle.checks.specs.Answers.{roomLimit, tickChecks, checksOf, numberOf, Besides, Lacks, Granted}
+use Rattle.checks.specs.Answers.{roomLimit, tickChecks, checksOf, numberOf, Besides, Lacks, Granted, Replies}
 use Rattle.checks.specs.declared.RunReply.{RunReply}
 use Rattle.checks.specs.declared.RunReply.the-variants.{Ticks, Refused, Tables, Large, Few, Late}
 use Rattle.checks.proofs.RunReply.{the-type as reply-type}
@@ -41,3 +42,8 @@ not-done z Late b o e = absurd (omega arith)
 -- so what is lacking is the reply, with nothing altered
 pub lacks-refuses : {j : Job} {z : Extent} {checks : Extent → Checks} {Done Same : Type 0} {r : RunReply} → Says j (Accepted z) → Lacks checks z r → OneOf (1 ∷ 2 ∷ 3 ∷ 4 ∷ 5 ∷ []) (tagOf reply-type r) → Same → Granted j checks Done Same r
 lacks-refuses {z = z} {r = r} s l o e = record { extent = z; accepted = s; lacks = l; finished = λ n. absurd (not-done z r (l .besides) o n); same = λ ne. e }
+
+-- and a tick count is a reply on an accepted array
+pub answered : {j : Job} {checks : Extent → Checks} {Done Same : Type 0} {n : ℕ} → Replies j checks Done Same (Ticks n) → Granted j checks Done Same (Ticks n)
+answered (inl denied) = let refused = denied .is in let z : _≡_ {A = ℕ} 0 1 = cc in absurd (omega arith)
+answered (inr granted) = granted

@@ -17,7 +17,7 @@ use Rattle.verdict.proofs.Accepted.{accepted-limits, accepted-ahead, accepted-e
 use Rattle.verdict.specs.Verdicts.{Says}
 use Rattle.verdict.specs.declared.Extent.{Extent}
 use Rattle.verdict.specs.declared.Verdict.the-variants.{Accepted}
-use Rattle.array.proofs.RoomLaws.{w-positive}
+use Rattle.frame.proofs.RoomLaws.{w-positive}
 use Rattle.demand.proofs.Obeys.{Moving, HopsApart, Obeys}
 
 module _ (j : Job) (z : Extent) (y : Says j (Accepted z)) where
