@@ -15,8 +15,8 @@ enum-known-read c = search needs
 enum-known-read-2 : tie.Need-enum-known-read-2
 enum-known-read-2 c = search needs
 
-loop-of-requires : tie.Need-loop-of-requires
-loop-of-requires c κs = search needs
+loop-within-requires : tie.Need-loop-within-requires
+loop-within-requires c κs = let told = c .before .before in let job = subst (Reads _) (told .read3 .given .1) (told .before .before .read .ensures) in job .0
 
 returns : tie.Need-returns
 returns c = inl (_, subst (Reads _) (c .before .read2 .given .1) (c .before .before .before .read .ensures), (refl, refl))
@@ -25,7 +25,10 @@ same-length : tie.Need-same-length
 same-length c = search needs
 
 returns-2 : tie.Need-returns-2
-returns-2 c = inr (_, subst (Reads _) (c .before .before .before .before .before .read3 .given .1) (c .before .before .before .before .before .before .before .read .ensures), c .before .before .loop-of .ensures)
+returns-2 c =
+    let looped = c .before .before in
+    let told = looped .before .before .before in
+    inr (_, subst (Reads _) (told .read3 .given .1) (told .before .before .read .ensures), looped .loop-within .ensures)
 
 pub loop-of-bytes-spec : {M : Type 1} → statement M
-loop-of-bytes-spec = tie.close (tie.spec read-requires enum-known-read enum-known-read-2 loop-of-requires returns same-length returns-2)
+loop-of-bytes-spec = tie.close (tie.spec read-requires enum-known-read enum-known-read-2 loop-within-requires returns same-length returns-2)

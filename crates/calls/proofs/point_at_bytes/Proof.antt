@@ -15,14 +15,17 @@ enum-known-read c = search needs
 enum-known-read-2 : tie.Need-enum-known-read-2
 enum-known-read-2 c = search needs
 
-point-at-requires : tie.Need-point-at-requires
-point-at-requires c κs = search needs
+judged-requires : tie.Need-judged-requires
+judged-requires c κs = let job = subst (Reads _) (c .before .read3 .given .1) (c .before .before .before .read .ensures) in job .0
+
+point-judged-requires : tie.Need-point-judged-requires
+point-judged-requires c κs = c .judged .ensures
 
 returns : tie.Need-returns
 returns c = inl (_, subst (Reads _) (c .before .read2 .given .1) (c .before .before .before .read .ensures), refl)
 
 returns-2 : tie.Need-returns-2
-returns-2 c = inr (_, subst (Reads _) (c .before .before .read3 .given .1) (c .before .before .before .before .read .ensures), c .point-at .ensures)
+returns-2 c = let told = c .before .before .before in inr (_, subst (Reads _) (told .read3 .given .1) (told .before .before .read .ensures), c .point-judged .ensures)
 
 pub point-at-bytes-spec : {M : Type 1} → statement M
-point-at-bytes-spec = tie.close (tie.spec read-requires enum-known-read enum-known-read-2 point-at-requires returns returns-2)
+point-at-bytes-spec = tie.close (tie.spec read-requires enum-known-read enum-known-read-2 judged-requires point-judged-requires returns returns-2)

@@ -18,14 +18,14 @@ slice-aggregate-result c = search needs
 enum-known-read-2 : tie.Need-enum-known-read-2
 enum-known-read-2 c = search needs
 
-row-of-requires : tie.Need-row-of-requires
-row-of-requires c κs = search needs
+row-within-requires : tie.Need-row-within-requires
+row-within-requires c κs = let job = subst (Reads _) (c .before .read3 .given .1) (c .before .before .before .read .ensures) in job .0
 
 returns : tie.Need-returns
-returns c = inl (_, subst (Reads _) (c .before .before .read2 .given .1) (c .before .before .before .before .read .ensures), refl)
+returns c = let told = c .before .before in inl (_, subst (Reads _) (told .read2 .given .1) (told .before .before .read .ensures), refl)
 
 returns-2 : tie.Need-returns-2
-returns-2 c = inr (_, subst (Reads _) (c .before .before .read3 .given .1) (c .before .before .before .before .read .ensures), c .row-of .ensures)
+returns-2 c = let told = c .before .before in inr (_, subst (Reads _) (told .read3 .given .1) (told .before .before .read .ensures), c .row-within .ensures)
 
 pub row-of-bytes-spec : {M : Type 1} → statement M
-row-of-bytes-spec = tie.close (tie.spec read-requires enum-known-read slice-aggregate-result enum-known-read-2 row-of-requires returns returns-2)
+row-of-bytes-spec = tie.close (tie.spec read-requires enum-known-read slice-aggregate-result enum-known-read-2 row-within-requires returns returns-2)

@@ -15,18 +15,14 @@ enum-known-read c = search needs
 enum-known-read-2 : tie.Need-enum-known-read-2
 enum-known-read-2 c = search needs
 
--- what was read is a job within the limits
-read : (c : tie.After-known-told2) → Reads (now (c .before .before .before .before .args .s)) (Reading.Job (c .before .read3 .given .0 .0))
-read c = subst (Reads _) (c .before .read3 .given .1) (c .before .before .before .read .ensures)
-
 judged-requires : tie.Need-judged-requires
-judged-requires c κs = ?
+judged-requires c κs = let job = subst (Reads _) (c .before .read3 .given .1) (c .before .before .before .read .ensures) in job .0
 
 returns : tie.Need-returns
 returns c = inl (_, subst (Reads _) (c .before .read2 .given .1) (c .before .before .before .read .ensures), refl)
 
 returns-2 : tie.Need-returns-2
-returns-2 c = inr (_, subst (Reads _) (c .before .before .read3 .given .1) (c .before .before .before .before .read .ensures), c .judged .ensures)
+returns-2 c = let told = c .before .before in inr (_, subst (Reads _) (told .read3 .given .1) (told .before .before .read .ensures), c .judged .ensures)
 
 pub verdict-of-bytes-spec : {M : Type 1} → statement M
 verdict-of-bytes-spec = tie.close (tie.spec read-requires enum-known-read enum-known-read-2 judged-requires returns returns-2)
