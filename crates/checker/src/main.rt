@@ -7,6 +7,6 @@ fn main() {
     let mut input = [0u8; 69];
     let got = io::read_full(STDIN_FILENO, &mut input);
     let mut out = [0u8; line::LONGEST];
-    let length = line::line_of_bytes(&mut out, &input[..got]);
+    let length = calls::line_of_bytes(&mut out, &input[..got]);
     io::write_all(STDOUT_FILENO, &out[..length]);
 }

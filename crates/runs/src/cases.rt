@@ -11,14 +11,14 @@ use crate::print::number;
 use crate::print::reply;
 use crate::print::say;
 use crate::print::wide;
-use checks::Answer;
+use job::Counted;
 use job::Job;
 use verdict::Verdict;
 
 // The replies of run and loop, with the run's value table and so many of 80 places lent; then their values side by side, or that nothing was altered.
 pub fn compare(j: Job, input: &[u32], run: &mut [u32], lent: usize) {
     let mut places = [GUARD; 80];
-    let a = checks::answer_of(array::run_of(j, input, &mut run[..], part(&mut places, lent)));
+    let a = checks::counted(array::run_of(j, input, &mut run[..], part(&mut places, lent)));
     reply(b"run", a, b" 0 ticks");
     unchanged(a, &run[..], &places);
     beside(j, input, a, &run[..]);
@@ -26,29 +26,21 @@ pub fn compare(j: Job, input: &[u32], run: &mut [u32], lent: usize) {
 }
 
 // After a refusal: is everything as it was?
-pub fn unchanged(a: Answer, table: &[u32], places: &[u32]) {
+pub fn unchanged(a: Counted, table: &[u32], places: &[u32]) {
     if a.number != 0 {
         holds(b"unchanged", is_guarded(table) & is_guarded(places));
     }
 }
 
 // The loop's reply, and where the run was not refused, the values of both.
-fn beside(j: Job, input: &[u32], a: Answer, run: &[u32]) {
+fn beside(j: Job, input: &[u32], a: Counted, run: &[u32]) {
     let mut looped = [GUARD; 81];
     let n = run.len();
-    let b = points(array::loops::loop_of(j, input, part(&mut looped, n)));
+    let b = array::loops::counted(array::loops::loop_of(j, input, part(&mut looped, n)));
     reply(b"loop", b, b" 0 points");
     unchanged(b, &looped, run);
     if a.number == 0 {
         streams(j, run, front(&looped, n));
-    }
-}
-
-// The loop's reply in numbers: the number of refusal, 0 for none, and the point count.
-fn points(r: array::loops::LoopReply) -> Answer {
-    match r {
-        array::loops::LoopReply::Points(count) => Answer { number: 0, count },
-        array::loops::LoopReply::Refused(number) => Answer { number, count: 0 },
     }
 }
 
@@ -77,14 +69,14 @@ fn stream(s: u8, run: &[u32], looped: &[u32]) {
 // R of an accepted job.
 fn room_of(j: Job) -> usize {
     let v = verdict::verdict_of(j);
-    let Verdict::Accepted(size) = v else {
+    let Verdict::Accepted(extent) = v else {
         return 0;
     };
-    size.room as usize
+    extent.room as usize
 }
 
 // Where the run was not refused: are the places past the first R as they were, and do single ticks from cleared places give its values and places?
-fn ticked(j: Job, input: &[u32], a: Answer, run: &[u32], places: &[u32]) {
+fn ticked(j: Job, input: &[u32], a: Counted, run: &[u32], places: &[u32]) {
     if a.number == 0 {
         let room = room_of(j);
         holds(b"beyond kept", is_guarded(rest(places, room)));
@@ -109,7 +101,7 @@ fn is_ticked(j: Job, input: &[u32], ticks: u64, run: &[u32], places: &[u32]) -> 
 fn each_tick(j: Job, input: &[u32], ticks: u64, table: &mut [u32], places: &mut [u32]) -> bool {
     let mut all = true;
     for t in 0..ticks {
-        let a = checks::answer_of(array::tick_of(j, t, input, &mut table[..], &mut places[..]));
+        let a = checks::counted(array::tick_of(j, t, input, &mut table[..], &mut places[..]));
         all = all & (a.number == 0) & (a.count == ticks);
     }
     all

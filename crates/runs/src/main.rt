@@ -18,7 +18,7 @@ use crate::print::every;
 use crate::print::reply;
 use crate::print::say;
 use crate::timetable::timetable;
-use checks::Answer;
+use job::Counted;
 use job::Job;
 use space::Vector;
 
@@ -144,7 +144,7 @@ fn ticks() {
 fn tick(from: [u32; 3], rule: u8, t: u64, n: usize, lent: usize) {
     let mut table = [GUARD; 3];
     let mut places = from;
-    let a = checks::answer_of(array::tick_of(
+    let a = checks::counted(array::tick_of(
         crate::jobs::line(rule),
         t,
         &[1, 2, 3],
@@ -155,7 +155,7 @@ fn tick(from: [u32; 3], rule: u8, t: u64, n: usize, lent: usize) {
 }
 
 // The reply, and what stands in the values and in the places after it.
-fn shown(a: Answer, table: &[u32], places: &[u32]) {
+fn shown(a: Counted, table: &[u32], places: &[u32]) {
     reply(b"reply", a, b" 0 ticks");
     unchanged(a, table, places);
     say(b"values");
@@ -189,6 +189,6 @@ fn bytes() {
 fn from_bytes(s: &[u8]) {
     let mut table = [GUARD; 3];
     let mut places = [GUARD; 3];
-    let a = checks::answer_of(array::run_of_bytes(s, &[1, 2, 3], &mut table, &mut places));
+    let a = checks::counted(calls::run_of_bytes(s, &[1, 2, 3], &mut table, &mut places));
     shown(a, &table, &places);
 }

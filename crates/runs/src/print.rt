@@ -1,5 +1,5 @@
 // Words, numbers and lines of output.
-use checks::Answer;
+use job::Counted;
 use libc::STDOUT_FILENO;
 use space::Vector;
 ghost use Prim.Native.Nat.{_<_};
@@ -47,7 +47,7 @@ pub fn holds(what: &[u8], so: bool) {
 }
 
 // Who replied, and what: 0 with a count of the unit, or the refusal.
-pub fn reply(who: &[u8], a: Answer, unit: &[u8]) {
+pub fn reply(who: &[u8], a: Counted, unit: &[u8]) {
     say(who);
     if a.number == 0 {
         say(unit);
@@ -59,7 +59,7 @@ pub fn reply(who: &[u8], a: Answer, unit: &[u8]) {
 }
 
 // The number of refusal, with R where it is given.
-fn refusal(a: Answer) {
+fn refusal(a: Counted) {
     say(b" refused");
     number(wide(a.number));
     if 0 < a.count {

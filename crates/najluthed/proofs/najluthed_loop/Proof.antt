@@ -1,39 +1,29 @@
--- By the loop's reply: its point count, or its number of refusal, made wider.
-use mathlib.Core.Path.{refl, subst}
+-- The number and the count of the loop of the bytes.
+use mathlib.Core.Path.{ap, _∙_}
+use Rattle.najluthed.specs.Calls.{done}
 use borrow.Author.Needs.{needs}
-use Rattle.array.specs.LoopBytes.{LoopsOf}
 use Rattle.najluthed.proofs.najluthed_loop.Statement.{statement}
 use Rattle.najluthed.proofs.najluthed_loop.Tie as tie
 
 loop-of-bytes-requires : tie.Need-loop-of-bytes-requires
 loop-of-bytes-requires c κs = search needs
 
-enum-known-r : tie.Need-enum-known-r
-enum-known-r c = search needs
+counted-requires : tie.Need-counted-requires
+counted-requires c κs = search needs
 
-enum-known-r-2 : tie.Need-enum-known-r-2
-enum-known-r-2 c = search needs
-
-wide-requires : tie.Need-wide-requires
-wide-requires c κs = search needs
+done-of-requires : tie.Need-done-of-requires
+done-of-requires c κs = search needs
 
 same-length : tie.Need-same-length
 same-length c = search needs
 
 returns : tie.Need-returns
 returns c =
-    let case = c .before in
-    let looped = case .before .before .before .before .loop-of-bytes .ensures in
-    (_, subst (LoopsOf _ _ _ _) (case .r .given .1) looped, (refl, refl))
-
-same-length-2 : tie.Need-same-length-2
-same-length-2 c = search needs
-
-returns-2 : tie.Need-returns-2
-returns-2 c =
-    let case = c .before .before in
-    let looped = case .before .before .before .before .loop-of-bytes .ensures in
-    (_, subst (LoopsOf _ _ _ _) (case .r2 .given .1) looped, (c .wide .ensures, refl))
+    let counted = c .before in
+    let lent = counted .before .before in
+    (_, lent .before .loop-of-bytes .ensures, c .done-of .ensures ∙ ap done (counted .counted .ensures))
 
 pub najluthed-loop-spec : {M : Type 1} → statement M
-najluthed-loop-spec = tie.close (tie.spec loop-of-bytes-requires enum-known-r enum-known-r-2 wide-requires same-length returns same-length-2 returns-2)
+najluthed-loop-spec =
+    tie.close
+    (tie.spec loop-of-bytes-requires counted-requires done-of-requires same-length returns)

@@ -1,5 +1,6 @@
--- The run's reply in numbers, the first of them made wider.
-use mathlib.Core.Path.{_∙_}
+-- The number and the count of the run of the bytes.
+use mathlib.Core.Path.{ap, _∙_}
+use Rattle.najluthed.specs.Calls.{done}
 use borrow.Author.Needs.{needs}
 use Rattle.najluthed.proofs.najluthed_run.Statement.{statement}
 use Rattle.najluthed.proofs.najluthed_run.Tie as tie
@@ -7,11 +8,11 @@ use Rattle.najluthed.proofs.najluthed_run.Tie as tie
 run-of-bytes-requires : tie.Need-run-of-bytes-requires
 run-of-bytes-requires c κs = search needs
 
-answer-of-requires : tie.Need-answer-of-requires
-answer-of-requires c κs = search needs
+counted-requires : tie.Need-counted-requires
+counted-requires c κs = search needs
 
-wide-requires : tie.Need-wide-requires
-wide-requires c κs = search needs
+done-of-requires : tie.Need-done-of-requires
+done-of-requires c κs = search needs
 
 same-length : tie.Need-same-length
 same-length c = search needs
@@ -21,9 +22,17 @@ same-length-2 c = search needs
 
 returns : tie.Need-returns
 returns c =
-    let told = c .before .answer-of .ensures in
-    let done = c .before .before .before .before .before .before in
-    (_, done .run-of-bytes .ensures, (c .wide .ensures ∙ told .number, told .count))
+    let counted = c .before in
+    let lent = counted .before .before .before .before in
+    (_, lent .before .run-of-bytes .ensures, c .done-of .ensures ∙ ap done (counted .counted .ensures))
 
 pub najluthed-run-spec : {M : Type 1} → statement M
-najluthed-run-spec = tie.close (tie.spec run-of-bytes-requires answer-of-requires wide-requires same-length same-length-2 returns)
+najluthed-run-spec =
+    tie.close
+    (tie.spec
+    run-of-bytes-requires
+    counted-requires
+    done-of-requires
+    same-length
+    same-length-2
+    returns)

@@ -1,5 +1,6 @@
--- The tick's reply in numbers, the first of them made wider.
-use mathlib.Core.Path.{_∙_}
+-- The number and the count of the tick of the bytes.
+use mathlib.Core.Path.{ap, _∙_}
+use Rattle.najluthed.specs.Calls.{done}
 use borrow.Author.Needs.{needs}
 use Rattle.najluthed.proofs.najluthed_tick.Statement.{statement}
 use Rattle.najluthed.proofs.najluthed_tick.Tie as tie
@@ -7,11 +8,11 @@ use Rattle.najluthed.proofs.najluthed_tick.Tie as tie
 tick-of-bytes-requires : tie.Need-tick-of-bytes-requires
 tick-of-bytes-requires c κs = search needs
 
-answer-of-requires : tie.Need-answer-of-requires
-answer-of-requires c κs = search needs
+counted-requires : tie.Need-counted-requires
+counted-requires c κs = search needs
 
-wide-requires : tie.Need-wide-requires
-wide-requires c κs = search needs
+done-of-requires : tie.Need-done-of-requires
+done-of-requires c κs = search needs
 
 same-length : tie.Need-same-length
 same-length c = search needs
@@ -21,9 +22,17 @@ same-length-2 c = search needs
 
 returns : tie.Need-returns
 returns c =
-    let told = c .before .answer-of .ensures in
-    let done = c .before .before .before .before .before .before in
-    (_, done .tick-of-bytes .ensures, (c .wide .ensures ∙ told .number, told .count))
+    let counted = c .before in
+    let lent = counted .before .before .before .before in
+    (_, lent .before .tick-of-bytes .ensures, c .done-of .ensures ∙ ap done (counted .counted .ensures))
 
 pub najluthed-tick-spec : {M : Type 1} → statement M
-najluthed-tick-spec = tie.close (tie.spec tick-of-bytes-requires answer-of-requires wide-requires same-length same-length-2 returns)
+najluthed-tick-spec =
+    tie.close
+    (tie.spec
+    tick-of-bytes-requires
+    counted-requires
+    done-of-requires
+    same-length
+    same-length-2
+    returns)
