@@ -21,7 +21,7 @@ enum-known-found c = search needs
 -- the place before was found, and it stands before k
 module _ (c : tie.After-found) where
   abbrev start : tie.Start
-  start = c .before .before .before .before .before
+  start = let previous = c .before .before in previous .before .before .before
 
   is : previous (start .args .j) (start .args .s) (start .args .k) ≡ some (c .found .given .0 .0)
   is = sym (c .before .before .previous-at .ensures (start .args .k) (start .pre .5)) ∙ ap foundOf (c .found .given .1)
