@@ -11,7 +11,7 @@ use lib.Seq.{take-all, getD-drop}
 use borrow.Author.Count.{below-more}
 use Rattle.space.specs.Boxes.{given}
 use Rattle.space.proofs.Rows.{row-within}
-use Rattle.job.specs.declared.Job.{Job}
+use Rattle.job.specs.declared.record.Job.{Job}
 use Rattle.job.specs.Refusals.{done, check, First}
 use Rattle.job.specs.Limits.{limits, Acceptable}
 use Rattle.job.proofs.Refusing.{passes, then-first}

@@ -8,7 +8,7 @@ use Rattle.array.specs.Ticks.{lastOf, works}
 use lib.Dec.{eqb}
 use Rattle.space.specs.Numbers.{Tells}
 use Rattle.space.proofs.Telling.{tells-and, tells-eq}
-use Rattle.job.specs.declared.Job.{Job}
+use Rattle.job.specs.declared.record.Job.{Job}
 use Rattle.frame.specs.Frames.{tickOf, cellOf}
 
 -- it is one of them, and passes

@@ -5,12 +5,12 @@ use mathlib.Core.List.{List}
 use Prim.Native.Nat.{ℕ, _≤_}
 use native.Mathlib.Omega.{arith}
 use lib.ListN.{length}
-use Rattle.job.specs.declared.Job.{Job}
+use Rattle.job.specs.declared.record.Job.{Job}
 use Rattle.job.specs.Refusals.{First}
 use Rattle.verdict.specs.Verdicts.{Says}
 use Rattle.verdict.specs.Extents.{room}
-use Rattle.verdict.specs.declared.Extent.{Extent}
-use Rattle.verdict.specs.declared.Verdict.the-variants.{Accepted}
+use Rattle.verdict.specs.declared.judge.Extent.{Extent}
+use Rattle.verdict.specs.declared.judge.Verdict.the-variants.{Accepted}
 use Rattle.tables.specs.Tables.{Long}
 use Rattle.frame.specs.declared.Frame.{Frame}
 use Rattle.frame.specs.Framing.{Framed}

@@ -6,7 +6,7 @@ use native.Mathlib.Numerals.{add-one}
 use native.Mathlib.Omega.{arith}
 use lib.ListN.{length, getD, set, drop, replicate, length-replicate, length-append, length-drop}
 use lib.Seq.{drop-cons, set-at}
-use Rattle.job.specs.declared.Job.{Job}
+use Rattle.job.specs.declared.record.Job.{Job}
 use Rattle.frame.specs.declared.Frame.{Frame}
 use Rattle.array.specs.Ticks.{Ticked}
 use Rattle.array.specs.Runs.{Ran, cleared}

@@ -15,7 +15,7 @@ use borrow.Author.Count.{below-more}
 use borrow.Author.Tests.{eq-eqb, ne-eqb}
 use Rattle.space.specs.Boxes.{given}
 use Rattle.space.proofs.Rows.{other-spot}
-use Rattle.job.specs.declared.Job.{Job}
+use Rattle.job.specs.declared.record.Job.{Job}
 use Rattle.job.specs.Record.{points}
 use Rattle.tables.specs.Tables.{entryFor}
 use Rattle.verdict.specs.Extents.{cells}

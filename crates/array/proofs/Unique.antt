@@ -4,7 +4,7 @@ use mathlib.Core.Option.{Option·some-injective, Option·some-ne-none}
 use Prim.Native.Nat.{ℕ}
 use Rattle.space.specs.Boxes.{pointOf}
 use Rattle.space.proofs.VectorLaws.{vector-of}
-use Rattle.job.specs.declared.Job.{Job}
+use Rattle.job.specs.declared.record.Job.{Job}
 use Rattle.job.specs.Record.{box}
 use Rattle.verdict.proofs.Unique.{says-unique}
 use Rattle.verdict.proofs.Accepted.{no-refusal}

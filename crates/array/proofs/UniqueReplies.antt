@@ -3,12 +3,12 @@ use mathlib.Core.Path.{_≡_, sym, _∙_}
 use mathlib.Core.List.{List}
 use Prim.Native.Nat.{ℕ}
 use lib.ListN.{length}
-use Rattle.job.specs.declared.Job.{Job}
+use Rattle.job.specs.declared.record.Job.{Job}
 use Rattle.job.specs.Refusals.{First}
 use Rattle.verdict.specs.Verdicts.{Says}
 use Rattle.verdict.specs.Extents.{ticks, room}
-use Rattle.verdict.specs.declared.Extent.{Extent}
-use Rattle.verdict.specs.declared.Verdict.the-variants.{Accepted}
+use Rattle.verdict.specs.declared.judge.Extent.{Extent}
+use Rattle.verdict.specs.declared.judge.Verdict.the-variants.{Accepted}
 use Rattle.frame.proofs.FrameLaws.{accepted-runs}
 use Rattle.checks.specs.Answers.{checksOf}
 use Rattle.checks.specs.declared.RunReply.{RunReply}

@@ -6,7 +6,7 @@ use Prim.Native.Nat.{ℕ, _+_, _*_, _<_}
 use native.Mathlib.Omega.{arith}
 use lib.ListN.{length, getD}
 use borrow.Author.Count.{below-more}
-use Rattle.job.specs.declared.Job.{Job}
+use Rattle.job.specs.declared.record.Job.{Job}
 use Rattle.job.specs.Limits.{Acceptable}
 use Rattle.job.specs.Record.{points}
 use Rattle.tables.specs.Tables.{entryFor, previous}

@@ -4,11 +4,11 @@ use mathlib.Core.Option.{none, some}
 use Prim.Native.Nat.{ℕ}
 use Rattle.space.specs.Vectors.{entries}
 use Rattle.space.specs.Boxes.{pointOf}
-use Rattle.job.specs.declared.Job.{Job}
+use Rattle.job.specs.declared.record.Job.{Job}
 use Rattle.job.specs.Record.{box, zeroVector}
 use Rattle.verdict.specs.Verdicts.{Says, numberOf}
-use Rattle.verdict.specs.declared.Verdict.the-variants.{Accepted}
-use Rattle.verdict.specs.declared.Extent.{Extent}
+use Rattle.verdict.specs.declared.judge.Verdict.the-variants.{Accepted}
+use Rattle.verdict.specs.declared.judge.Extent.{Extent}
 use Rattle.array.specs.Ticks.{pointAt}
 use Rattle.array.specs.declared.lookup.Lookup.{Lookup}
 use Rattle.array.specs.declared.lookup.Looked.{Looked}

@@ -4,8 +4,8 @@ use mathlib.Core.List.{List}
 use Prim.Native.Nat.{ℕ, _*_, _<_}
 use lib.ListN.{length}
 use Rattle.space.specs.Boxes.{given}
-use Rattle.job.specs.declared.Counted.{Counted}
-use Rattle.job.specs.declared.Job.{Job}
+use Rattle.job.specs.declared.numbers.Counted.{Counted}
+use Rattle.job.specs.declared.record.Job.{Job}
 use Rattle.job.specs.Refusals.{Checks, done, check, First, andThen}
 use Rattle.job.specs.Limits.{limits}
 use Rattle.job.specs.Record.{points}

@@ -3,7 +3,7 @@ use mathlib.Core.Path.{_≡_}
 use mathlib.Core.List.{List, _++_}
 use Prim.Native.Nat.{ℕ, zero, suc}
 use lib.ListN.{length, drop, replicate}
-use Rattle.job.specs.declared.Job.{Job}
+use Rattle.job.specs.declared.record.Job.{Job}
 use Rattle.verdict.specs.Extents.{ticks, room}
 use Rattle.array.specs.Ticks.{Ticked}
 use Rattle.checks.specs.Answers.{checksOf, Replies}

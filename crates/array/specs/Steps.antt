@@ -4,7 +4,7 @@ use mathlib.Core.List.{List}
 use Prim.Native.Nat.{ℕ, _*_, _%_, _<_, _≤_}
 use lib.ListN.{length, drop}
 use Rattle.space.specs.Boxes.{backOf, given}
-use Rattle.job.specs.declared.Job.{Job}
+use Rattle.job.specs.declared.record.Job.{Job}
 use Rattle.job.specs.Record.{points}
 use Rattle.verdict.specs.Extents.{rectangle, cells, room}
 use Rattle.verdict.specs.Mapping.{hop, w}

@@ -7,7 +7,7 @@ use Prim.Native.Nat.{ℕ, zero, suc, _%_, _<_}
 use lib.Dec.{eqb}
 use lib.ListN.{length, drop}
 use Rattle.space.specs.Boxes.{backOf, given}
-use Rattle.job.specs.declared.Job.{Job}
+use Rattle.job.specs.declared.record.Job.{Job}
 use Rattle.verdict.specs.Mapping.{hop, w}
 use Rattle.job.specs.Record.{points}
 use Rattle.tables.specs.Tables.{entryFor, previous}

@@ -1,9 +1,9 @@
 // The point worked in a tick at a cell.
 use frame::Frame;
-use job::Job;
-use space::Vector;
+use job::record::Job;
 use space::boxes::Found;
-use verdict::Verdict;
+use space::vector::Vector;
+use verdict::judge::Verdict;
 ghost use mathlib.Core.Path.{_≡_};
 ghost use Rattle.space.specs.Boxes.{foundOf};
 ghost use Rattle.array.specs.Ticks.{pointAt};
@@ -29,7 +29,7 @@ pub struct Looked {
 pub fn point_at(j: Job, t: u64, x: u64) -> Lookup
     ensures { λ r. ⌜ Looks j t x r ⌝ }
 {
-    point_judged(j, verdict::verdict_of(j), t, x)
+    point_judged(j, verdict::judge::verdict_of(j), t, x)
 }
 
 // The same of a job with its verdict.
@@ -72,7 +72,7 @@ fn nothing(number: u8) -> Looked
     Looked {
         number,
         found: 0,
-        point: space::ZERO,
+        point: space::vector::ZERO,
     }
 }
 

@@ -1,8 +1,8 @@
 // The plain loop nest of a job: points in box order.
-use job::Counted;
-use job::Job;
-use space::Vector;
+use job::numbers::Counted;
+use job::record::Job;
 use space::boxes::Found;
+use space::vector::Vector;
 ghost use mathlib.Core.Path.{_≡_};
 ghost use Prim.Native.Nat.{ℕ, _+_, _<_};
 ghost use lib.ListN.{getD};
@@ -50,7 +50,7 @@ pub fn loop_within(j: Job, input: &[u32], values: &mut [u32]) -> LoopReply
     requires { ⌜ Acceptable j ⌝ }
     ensures { λ r. ⌜ Loops j (now (input .entry)) (now (values .entry)) (now (values .exit)) r ⌝ }
 {
-    let size = tables::size_of(j);
+    let size = tables::table::size_of(j);
     if !((input.len() == size) & (values.len() == size)) {
         return LoopReply::Refused(13);
     }
@@ -64,7 +64,7 @@ fn incoming_at(j: Job, s: u8, p: Vector, k: u64, input: &[u32], values: &[u32]) 
     requires { ⌜ Acceptable j × (s < j .m) × Rowed j (now input) × Rowed j (now values) × (k < pointsOf j) × (entries p ≡ pointOf (box j) k) ⌝ }
     ensures { λ r. ⌜ r ≡ given (previous j s k) (getD (now (input .entry)) k 0) (λ (q : ℕ). getD (now (values .entry)) q 0) ⌝ }
 {
-    let found = tables::previous_at(j, s, p);
+    let found = tables::table::previous_at(j, s, p);
     match found {
         Found::At(q) => {
             let i = q as usize;
@@ -106,7 +106,7 @@ fn fill(j: Job, input: &[u32], values: &mut [u32], points: u64)
     let mut k: u64 = 0;
     while k < points {
         let got = incoming_all(j, input, &values[..], points, p, k);
-        tables::put_column(j, &mut values[..], points, k, got);
+        tables::table::put_column(j, &mut values[..], points, k, got);
         p = space::boxes::next(b, p);
         k += 1;
     }

@@ -18,7 +18,7 @@ fn put_value(f: Frame, s: u8, slot: u64, values: &[u32], band: &mut [u32], k: u6
 {
     let b = frame::band_at(f.bands, s);
     let spot = frame::spot_at(f, k);
-    let from = tables::place_in_table(s, f.points, k);
+    let from = tables::table::place_in_table(s, f.points, k);
     let i = (spot.cell * b.w + slot) as usize;
     band[i] = values[from];
 }

@@ -16,7 +16,7 @@ fn incoming_at(f: Frame, t: u64, input: &[u32], places: &[u32], s: u8, spot: Spo
     requires { ⌜ Tabled f (now input) × Roomy f (now places) × (s < f .job .m) × Stands f spot ⌝ }
     ensures { λ r. ⌜ r ≡ incoming (f .job) (now (input .entry)) t (now (places .entry)) s (spot .cell) (spot .place) ⌝ }
 {
-    let found = tables::previous_at(f.job, s, spot.point);
+    let found = tables::table::previous_at(f.job, s, spot.point);
     match found {
         Found::At(_q) => {
             let b = frame::band_at(f.bands, s);
@@ -25,7 +25,7 @@ fn incoming_at(f: Frame, t: u64, input: &[u32], places: &[u32], s: u8, spot: Spo
             bands::arriving(&places[from..end], f.rectangle, b, t % b.w, spot.cell)
         }
         Found::Nowhere => {
-            let i = tables::place_in_table(s, f.points, spot.place);
+            let i = tables::table::place_in_table(s, f.points, spot.place);
             input[i]
         }
     }
@@ -55,7 +55,7 @@ fn work_column(f: Frame, t: u64, input: &[u32], values: &mut [u32], places: &[u3
 {
     let spot = frame::spot_at(f, k);
     let got = incoming_all(f, t, input, places, spot);
-    tables::put_column(f.job, &mut values[..], f.points, k, got);
+    tables::table::put_column(f.job, &mut values[..], f.points, k, got);
 }
 
 // All points of tick t.

@@ -4,9 +4,9 @@ use mathlib.Core.Logic.{inl, inr}
 use mathlib.Core.List.{List}
 use Prim.Native.Nat.{ℕ}
 use native.Mathlib.Omega.{arith}
-use Rattle.job.specs.declared.Job.{Job}
+use Rattle.job.specs.declared.record.Job.{Job}
 use Rattle.reader.specs.Reading.{Reads}
-use Rattle.reader.specs.declared.Reading.the-variants as Reading
+use Rattle.reader.specs.declared.reading.Reading.the-variants as Reading
 use Rattle.reader.proofs.Theorems.{reads-unique}
 use Rattle.calls.specs.Bytes.{OfBytes}
 

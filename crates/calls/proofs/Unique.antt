@@ -2,11 +2,11 @@
 use mathlib.Core.Path.{_≡_, sym, ap, subst, _∙_}
 use mathlib.Core.List.{List}
 use Prim.Native.Nat.{ℕ}
-use Rattle.job.specs.declared.Job.{Job}
+use Rattle.job.specs.declared.record.Job.{Job}
 use Rattle.job.specs.Record.{points}
 use Rattle.verdict.specs.Verdicts.{inNumbers, numberOf}
-use Rattle.verdict.specs.declared.Verdict.{Verdict}
-use Rattle.verdict.specs.declared.Verdict.the-variants.{Limit}
+use Rattle.verdict.specs.declared.judge.Verdict.{Verdict}
+use Rattle.verdict.specs.declared.judge.Verdict.the-variants.{Limit}
 use Rattle.verdict.proofs.Unique.{says-unique, counts-unique}
 use Rattle.verdict.specs.declared.room.Room.{Room}
 use Rattle.checks.specs.declared.RunReply.{RunReply}

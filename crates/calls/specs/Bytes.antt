@@ -3,14 +3,14 @@ use mathlib.Core.Path.{_≡_}
 use mathlib.Core.Logic.{_⊎_}
 use mathlib.Core.List.{List, []}
 use Prim.Native.Nat.{ℕ}
-use Rattle.job.specs.declared.Job.{Job}
+use Rattle.job.specs.declared.record.Job.{Job}
 use Rattle.reader.specs.Reading.{Reads}
-use Rattle.reader.specs.declared.Reading.the-variants as Reading
+use Rattle.reader.specs.declared.reading.Reading.the-variants as Reading
 use Rattle.job.specs.Record.{points}
 use Rattle.verdict.specs.Verdicts.{noExtent, inNumbers, numberOf, Says}
 use Rattle.verdict.specs.Rooms.{Counts}
-use Rattle.verdict.specs.declared.Verdict.{Verdict}
-use Rattle.verdict.specs.declared.Verdict.the-variants.{Limit}
+use Rattle.verdict.specs.declared.judge.Verdict.{Verdict}
+use Rattle.verdict.specs.declared.judge.Verdict.the-variants.{Limit}
 use Rattle.verdict.specs.declared.room.Room.{Room}
 use Rattle.checks.specs.declared.RunReply.{RunReply}
 use Rattle.checks.specs.declared.RunReply.the-variants as Run

@@ -3,10 +3,10 @@ use array::lookup::Lookup;
 use array::loops::LoopReply;
 use checks::RunReply;
 use checks::Work;
-use job::Job;
-use reader::Reading;
-use verdict::Extent;
-use verdict::Verdict;
+use job::record::Job;
+use reader::reading::Reading;
+use verdict::judge::Extent;
+use verdict::judge::Verdict;
 use verdict::room::Room;
 ghost use mathlib.Core.Path.{_≡_};
 ghost use Prim.Native.Nat.{_≤_};
@@ -27,10 +27,10 @@ pub struct Measures {
 pub fn verdict_of_bytes(s: &[u8]) -> Verdict
     ensures { λ r. ⌜ SaysOf (now (s .entry)) r ⌝ }
 {
-    let read = reader::read(s);
+    let read = reader::reading::read(s);
     match read {
         Reading::Refused(number) => Verdict::Limit(number),
-        Reading::Job(j) => verdict::judged(j),
+        Reading::Job(j) => verdict::judge::judged(j),
     }
 }
 
@@ -45,7 +45,7 @@ pub fn room_of_bytes(s: &[u8]) -> Room
 pub fn measures_of_bytes(s: &[u8]) -> Measures
     ensures { λ r. ⌜ MeasuresOf (now (s .entry)) r ⌝ }
 {
-    let read = reader::read(s);
+    let read = reader::reading::read(s);
     match read {
         Reading::Refused(number) => refused(number),
         Reading::Job(j) => measured(j),
@@ -57,7 +57,7 @@ fn measured(j: Job) -> Measures
     requires { ⌜ Acceptable j ⌝ }
     ensures { λ r. ⌜ MeasuresIn j r ⌝ }
 {
-    let told = verdict::numbers::in_numbers(verdict::judged(j));
+    let told = verdict::numbers::in_numbers(verdict::judge::judged(j));
     let extent = told.extent;
     Measures {
         number: told.number,
@@ -90,12 +90,12 @@ fn refused(number: u8) -> Measures
 pub fn run_of_bytes(s: &[u8], input: &[u32], values: &mut [u32], places: &mut [u32]) -> RunReply
     ensures { λ r. ⌜ RunsOf (now (s .entry)) (now (input .entry)) (now (values .entry)) (now (places .entry)) (now (values .exit)) (now (places .exit)) r ⌝ }
 {
-    let read = reader::read(s);
+    let read = reader::reading::read(s);
     match read {
         Reading::Refused(number) => RunReply::Refused(Verdict::Limit(number)),
-        Reading::Job(j) => array::work_out(
+        Reading::Job(j) => array::run::work_out(
             j,
-            verdict::judged(j),
+            verdict::judge::judged(j),
             Work::Run,
             input,
             &mut values[..],
@@ -114,12 +114,12 @@ pub fn tick_of_bytes(
 ) -> RunReply
     ensures { λ r. ⌜ SingleTickOf t (now (s .entry)) (now (input .entry)) (now (values .entry)) (now (places .entry)) (now (values .exit)) (now (places .exit)) r ⌝ }
 {
-    let read = reader::read(s);
+    let read = reader::reading::read(s);
     match read {
         Reading::Refused(number) => RunReply::Refused(Verdict::Limit(number)),
-        Reading::Job(j) => array::work_out(
+        Reading::Job(j) => array::run::work_out(
             j,
-            verdict::judged(j),
+            verdict::judge::judged(j),
             Work::Tick(t),
             input,
             &mut values[..],
@@ -132,7 +132,7 @@ pub fn tick_of_bytes(
 pub fn loop_of_bytes(s: &[u8], input: &[u32], values: &mut [u32]) -> LoopReply
     ensures { λ r. ⌜ LoopsOf (now (s .entry)) (now (input .entry)) (now (values .entry)) (now (values .exit)) r ⌝ }
 {
-    let read = reader::read(s);
+    let read = reader::reading::read(s);
     match read {
         Reading::Refused(number) => LoopReply::Refused(number),
         Reading::Job(j) => array::loops::loop_within(j, input, &mut values[..]),
@@ -143,7 +143,7 @@ pub fn loop_of_bytes(s: &[u8], input: &[u32], values: &mut [u32]) -> LoopReply
 pub fn row_of_bytes<'a, 'b>(s: &'b [u8], table: &'a [u32], i: u8) -> &'a [u32]
     ensures { λ r. ⌜ RowOf (now (s .entry)) (now (table .entry)) i (now r) ⌝ }
 {
-    let read = reader::read(s);
+    let read = reader::reading::read(s);
     match read {
         Reading::Refused(_number) => &table[..0],
         Reading::Job(j) => tables::rows::row_within(j, table, i),
@@ -154,10 +154,10 @@ pub fn row_of_bytes<'a, 'b>(s: &'b [u8], table: &'a [u32], i: u8) -> &'a [u32]
 pub fn point_at_bytes(s: &[u8], t: u64, x: u64) -> Lookup
     ensures { λ r. ⌜ LooksOf (now (s .entry)) t x r ⌝ }
 {
-    let read = reader::read(s);
+    let read = reader::reading::read(s);
     match read {
         Reading::Refused(number) => Lookup::Refused(Verdict::Limit(number)),
-        Reading::Job(j) => array::lookup::point_judged(j, verdict::judged(j), t, x),
+        Reading::Job(j) => array::lookup::point_judged(j, verdict::judge::judged(j), t, x),
     }
 }
 
@@ -166,9 +166,9 @@ pub fn line_of_bytes(out: &mut [u8], s: &[u8]) -> usize
     ensures writes { λ r. ⌜ WritesOf (now (s .entry)) (now (out .entry)) r (now (out .exit)) ⌝ }
     ensures inside { λ r. ⌜ r ≤ length (now (out .exit)) ⌝ }
 {
-    let read = reader::read(s);
+    let read = reader::reading::read(s);
     match read {
         Reading::Refused(number) => line::write_line(out, 0, Verdict::Limit(number)),
-        Reading::Job(j) => line::write_line(out, j.n, verdict::judged(j)),
+        Reading::Job(j) => line::write_line(out, j.n, verdict::judge::judged(j)),
     }
 }

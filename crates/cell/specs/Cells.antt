@@ -1,6 +1,6 @@
 -- 'Rules, over the m arrivals at a point, modulo 2^32.'
 use Prim.Native.Nat.{ℕ, zero, suc, _+_, _*_, _%_, _^_, min}
-use Rattle.job.specs.declared.Job.{Job}
+use Rattle.job.specs.declared.record.Job.{Job}
 use Rattle.job.specs.Record.{stream}
 
 -- '0 passes the stream's own arrival on. 1 gives own + (arrival of a) × (arrival of b). 2 gives the smaller, unsigned, of own and the wrapped sum of the arrivals of a and b'

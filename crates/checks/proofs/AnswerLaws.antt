@@ -6,12 +6,12 @@ use Prim.Native.Nat.{ℕ, _≤_}
 use native.Mathlib.Omega.{arith}
 use types.Run.{OneOf, miss}
 use denote.Enum.Declared.{tagOf}
-use Rattle.job.specs.declared.Job.{Job}
+use Rattle.job.specs.declared.record.Job.{Job}
 use Rattle.job.specs.Refusals.{Checks, First}
 use Rattle.job.proofs.Refusing.{Numbered, first-passes}
 use Rattle.verdict.specs.Verdicts.{Says}
-use Rattle.verdict.specs.declared.Extent.{Extent}
-use Rattle.verdict.specs.declared.Verdict.the-variants.{Accepted}
+use Rattle.verdict.specs.declared.judge.Extent.{Extent}
+use Rattle.verdict.specs.declared.judge.Verdict.the-variants.{Accepted}
 use Rattle.tables.specs.Tables.{Long}
 use Rattle.checks.specs.Answers.{roomLimit, tickChecks, checksOf, numberOf, Besides, Lacks, Granted, Replies}
 use Rattle.checks.specs.declared.RunReply.{RunReply}

@@ -5,12 +5,12 @@ use mathlib.Core.Bool.{cond}
 use Prim.Native.Nat.{ℕ}
 use native.Mathlib.Decide.{ℕ-discrete}
 use lib.Dec.{eqb}
-use Rattle.job.specs.declared.Job.{Job}
+use Rattle.job.specs.declared.record.Job.{Job}
 use Rattle.job.specs.Refusals.{Checks, First}
 use Rattle.job.proofs.Refusing.{first-unique}
 use Rattle.verdict.specs.Verdicts.{Says}
-use Rattle.verdict.specs.declared.Extent.{Extent}
-use Rattle.verdict.specs.declared.Verdict.the-variants.{Accepted}
+use Rattle.verdict.specs.declared.judge.Extent.{Extent}
+use Rattle.verdict.specs.declared.judge.Verdict.the-variants.{Accepted}
 use Rattle.verdict.proofs.Unique.{says-unique}
 use Rattle.verdict.proofs.Accepted.{sizes-same, no-refusal}
 use Rattle.checks.specs.Answers.{numberOf, Besides, Lacks, Denied, Granted, Replies}

@@ -2,13 +2,13 @@
 use mathlib.Core.Path.{_≡_}
 use mathlib.Core.Logic.{_⊎_}
 use Prim.Native.Nat.{ℕ, _<_, _≤_}
-use Rattle.job.specs.declared.Counted.{Counted}
-use Rattle.job.specs.declared.Job.{Job}
+use Rattle.job.specs.declared.numbers.Counted.{Counted}
+use Rattle.job.specs.declared.record.Job.{Job}
 use Rattle.job.specs.Refusals.{Checks, done, check, First}
 use Rattle.verdict.specs.Verdicts.{Says, numberOf as numberIn}
-use Rattle.verdict.specs.declared.Verdict.{Verdict}
-use Rattle.verdict.specs.declared.Verdict.the-variants.{Accepted}
-use Rattle.verdict.specs.declared.Extent.{Extent}
+use Rattle.verdict.specs.declared.judge.Verdict.{Verdict}
+use Rattle.verdict.specs.declared.judge.Verdict.the-variants.{Accepted}
+use Rattle.verdict.specs.declared.judge.Extent.{Extent}
 use Rattle.tables.specs.Tables.{Long}
 use Rattle.checks.specs.declared.Work.{Work}
 use Rattle.checks.specs.declared.Work.the-variants.{Run, Tick}

@@ -1,8 +1,8 @@
 // What a run and a single tick answer, and the checks before them.
-use job::Counted;
-use job::Job;
-use verdict::Extent;
-use verdict::Verdict;
+use job::numbers::Counted;
+use job::record::Job;
+use verdict::judge::Extent;
+use verdict::judge::Verdict;
 ghost use mathlib.Core.Path.{_≡_};
 ghost use mathlib.Core.Bool.{true, false};
 ghost use Rattle.job.specs.Limits.{Acceptable};
@@ -75,7 +75,7 @@ pub fn lacking(
     requires { ⌜ Acceptable j ⌝ }
     ensures { λ r. ⌜ Lacks (checksOf work j input values places) extent r ⌝ }
 {
-    let table = tables::size_of(j);
+    let table = tables::table::size_of(j);
     if !((input == table) & (values == table)) {
         return RunReply::Tables;
     }

@@ -7,7 +7,7 @@ use native.Mathlib.Decide.{decLe}
 use lib.ListN.{getD}
 use lib.IntN.{ℤ, pos, natAbs, _*ℤ_}
 use lib.Signed.{quotZ}
-use Rattle.space.specs.declared.Vector.{Vector}
+use Rattle.space.specs.declared.vector.Vector.{Vector}
 use Rattle.space.specs.declared.boxes.Bounds.{Bounds}
 use Rattle.space.specs.Vectors.{entries, dotOf, plusOf, minusOf, timesOf}
 use Rattle.space.specs.Divisors.{gcdOf}
@@ -18,7 +18,7 @@ use Rattle.space.proofs.MultipleLaws.{times-cancel}
 use Rattle.space.proofs.BoxLaws.{place-below}
 use Rattle.space.proofs.PairLaws.{startOf, start-in, start-least, in-apart, apart-in}
 use Rattle.space.proofs.PairLaws as PairLaws
-use Rattle.job.specs.declared.Job.{Job}
+use Rattle.job.specs.declared.record.Job.{Job}
 use Rattle.job.specs.Refusals.{First}
 use Rattle.job.specs.Limits.{limits, Acceptable}
 use Rattle.job.proofs.Refusing.{accepted}
@@ -31,10 +31,10 @@ use Rattle.verdict.specs.declared.walk.FoundGap.the-variants as FoundGap
 use Rattle.verdict.specs.Rules.{Ahead, Even, SameCell, Collides, Clear, All}
 use Rattle.verdict.specs.Verdicts.{Lowest, FirstPair, Says}
 use Rattle.verdict.specs.Searches.{Still, CollidesBy, CollidesBySome, FindsStream, FindsGap, FindsPair, FindsCollisionOn, FindsCollision}
-use Rattle.verdict.specs.declared.Extent.{Extent}
-use Rattle.verdict.specs.declared.Pair.{Pair}
-use Rattle.verdict.specs.declared.Verdict.{Verdict}
-use Rattle.verdict.specs.declared.Verdict.the-variants.{Accepted, Limit, Precedence, Hop, Cell, Link}
+use Rattle.verdict.specs.declared.judge.Extent.{Extent}
+use Rattle.verdict.specs.declared.judge.Pair.{Pair}
+use Rattle.verdict.specs.declared.judge.Verdict.{Verdict}
+use Rattle.verdict.specs.declared.judge.Verdict.the-variants.{Accepted, Limit, Precedence, Hop, Cell, Link}
 use Rattle.verdict.specs.declared.rules.FoundStream.{FoundStream}
 use Rattle.verdict.specs.declared.rules.FoundStream.the-variants as FoundStream
 use Rattle.verdict.specs.declared.rules.FoundPair.{FoundPair}

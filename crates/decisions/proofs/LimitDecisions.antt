@@ -1,13 +1,13 @@
 -- The limits of a record decided, each as it is stated, and the number of the first that is broken.
 use Prim.Native.Nat.{ℕ, _+_, _≤_}
 use lib.IntN.{ℤ, pos}
-use Rattle.space.specs.declared.Vector.{Vector}
+use Rattle.space.specs.declared.vector.Vector.{Vector}
 use Rattle.space.specs.declared.boxes.Bounds.{Bounds}
 use Rattle.space.specs.Vectors.{entries}
 use Rattle.space.specs.Divisors.{sizesOf}
 use Rattle.space.specs.Boxes.{boxOf, countOf}
-use Rattle.job.specs.declared.Job.{Job}
-use Rattle.job.specs.declared.Stream.{Stream}
+use Rattle.job.specs.declared.record.Job.{Job}
+use Rattle.job.specs.declared.record.Stream.{Stream}
 use Rattle.job.specs.Record.{streamsOf, rowsOf}
 use Rattle.job.specs.Refusals.{First}
 use Rattle.job.specs.Limits.{Unused, Idle, Shaped, Boxed, Ruled, Sound, Rowed, limits, boundLimit, rowLimit, pointLimit, stepLimit}

@@ -5,10 +5,10 @@ use mathlib.Core.Option.{some}
 use Prim.Native.Nat.{ℕ, _*_, _<_}
 use native.Mathlib.Omega.{arith}
 use lib.ListN.{length}
-use Rattle.job.specs.declared.Job.{Job}
+use Rattle.job.specs.declared.record.Job.{Job}
 use Rattle.verdict.specs.Verdicts.{Says}
-use Rattle.verdict.specs.declared.Extent.{Extent}
-use Rattle.verdict.specs.declared.Verdict.the-variants.{Accepted}
+use Rattle.verdict.specs.declared.judge.Extent.{Extent}
+use Rattle.verdict.specs.declared.judge.Verdict.the-variants.{Accepted}
 use Rattle.verdict.proofs.Accepted.{accepted-limits}
 use Rattle.job.specs.Record.{points}
 use Rattle.tables.specs.Tables.{entryFor}

@@ -17,7 +17,7 @@ use Rattle.space.proofs.VectorLaws.{dot-minus, dot-times, minus-plus, times-len
 use Rattle.space.proofs.OrderLaws.{before-total}
 use Rattle.space.proofs.BoxLaws.{in-length, point-in, place-point, point-place, place-injective, steps-back, convex}
 use Rattle.space.proofs.BackLaws.{back-some, back-here, back-below}
-use Rattle.job.specs.declared.Job.{Job}
+use Rattle.job.specs.declared.record.Job.{Job}
 use Rattle.job.proofs.Accepting.{stream-sound}
 use Rattle.job.specs.Record.{box, stream, along, points}
 use Rattle.verdict.specs.Mapping.{H, S, g, Stationary, orOne, hops, hop, delay, w}

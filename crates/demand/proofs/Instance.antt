@@ -4,7 +4,7 @@ use mathlib.Core.List.{List}
 use mathlib.Core.Option.{none, some}
 use Prim.Native.Nat.{ℕ}
 use Rattle.space.proofs.BackLaws.{back-below}
-use Rattle.job.specs.declared.Job.{Job}
+use Rattle.job.specs.declared.record.Job.{Job}
 use Rattle.verdict.specs.Mapping.{hops}
 use Rattle.tables.specs.Tables.{entryFor, previous}
 use Rattle.tables.proofs.TableLaws.{same-work}

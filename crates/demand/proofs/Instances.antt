@@ -4,7 +4,7 @@ use mathlib.Core.List.{List}
 use mathlib.Core.Option.{none, some}
 use Prim.Native.Nat.{ℕ, _<_}
 use Rattle.space.specs.Boxes.{backOf, given}
-use Rattle.job.specs.declared.Job.{Job}
+use Rattle.job.specs.declared.record.Job.{Job}
 use Rattle.verdict.specs.Mapping.{hop, w}
 use Rattle.job.specs.Record.{points}
 use Rattle.tables.specs.Tables.{entryFor, previous}

@@ -5,7 +5,7 @@ use Prim.Native.Nat.{ℕ, _-_, _<_, _≤_, _∣_}
 use lib.IntN.{ℤ, pos, natAbs, _*ℤ_}
 use lib.Signed.{_≤ℤ_}
 use Rattle.space.specs.Vectors.{minusOf, timesOf}
-use Rattle.job.specs.declared.Job.{Job}
+use Rattle.job.specs.declared.record.Job.{Job}
 use Rattle.job.specs.Limits.{Acceptable}
 use Rattle.job.specs.Record.{box, stream, along}
 use Rattle.verdict.specs.Mapping.{H, S, g, Stationary, hop as e, delay as w}

@@ -5,12 +5,12 @@ use mathlib.Core.List.{List}
 use Prim.Native.Nat.{ℕ, _*_}
 use native.Mathlib.Omega.{arith}
 use lib.ListN.{length}
-use Rattle.job.specs.declared.Job.{Job}
+use Rattle.job.specs.declared.record.Job.{Job}
 use Rattle.job.specs.Refusals.{First}
 use Rattle.job.specs.Limits.{Acceptable}
 use Rattle.job.proofs.Refusing.{first-unique}
 use Rattle.reader.specs.Reading.{Reads}
-use Rattle.reader.specs.declared.Reading.the-variants as Read
+use Rattle.reader.specs.declared.reading.Reading.the-variants as Read
 use Rattle.calls.specs.Bytes.{RunsOf, LoopsOf}
 use Rattle.calls.proofs.BytesLaws.{of-bytes-job}
 use Rattle.job.specs.Record.{points}

@@ -8,15 +8,15 @@ use lib.IntN.{ℤ, pos, natAbs, _*ℤ_}
 use Rattle.space.specs.Vectors.{minusOf}
 use Rattle.space.proofs.Parts.{int, product}
 use Rattle.space.proofs.Ints.{quot-up, dvd-whole}
-use Rattle.job.specs.declared.Job.{Job}
+use Rattle.job.specs.declared.record.Job.{Job}
 use Rattle.job.specs.Record.{stream, along}
 use Rattle.verdict.specs.Mapping.{H, g, orOne, hops, delay, w}
 use Rattle.verdict.specs.Collisions.{IsCollision}
 use Rattle.verdict.proofs.Courses.{stationary-none, hops-some}
 use Rattle.verdict.proofs.Accepted.{accepted-limits, accepted-ahead, accepted-even, accepted-cells, accepted-clear}
 use Rattle.verdict.specs.Verdicts.{Says}
-use Rattle.verdict.specs.declared.Extent.{Extent}
-use Rattle.verdict.specs.declared.Verdict.the-variants.{Accepted}
+use Rattle.verdict.specs.declared.judge.Extent.{Extent}
+use Rattle.verdict.specs.declared.judge.Verdict.the-variants.{Accepted}
 use Rattle.frame.proofs.RoomLaws.{w-positive}
 use Rattle.demand.proofs.Obeys.{Moving, HopsApart, Obeys}
 

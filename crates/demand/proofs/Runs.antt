@@ -9,7 +9,7 @@ use native.Mathlib.Omega.{arith}
 use lib.Dec.{ltb}
 use borrow.Author.Tests.{lt-ltb, le-ltb}
 use Rattle.space.specs.Boxes.{backOf, given}
-use Rattle.job.specs.declared.Job.{Job}
+use Rattle.job.specs.declared.record.Job.{Job}
 use Rattle.verdict.specs.Mapping.{hop}
 use Rattle.job.specs.Record.{points}
 use Rattle.tables.specs.Tables.{entryFor, previous}

@@ -6,7 +6,7 @@ use Prim.Native.Nat.{ℕ, zero, suc, _<_}
 use native.Mathlib.Decide.{ℕ-discrete}
 use native.Mathlib.Omega.{arith}
 use Rattle.space.proofs.Telling.{told}
-use Rattle.job.specs.declared.Job.{Job}
+use Rattle.job.specs.declared.record.Job.{Job}
 use Rattle.job.specs.Record.{points}
 use Rattle.frame.specs.Frames.{tickOf, cellOf}
 use Rattle.array.specs.Ticks.{lastOf, works, pointAt}

@@ -6,13 +6,13 @@ use Prim.Native.Nat.{ℕ, zero, suc, _<_}
 use native.Mathlib.Omega.{arith}
 use Rattle.space.specs.Vectors.{minusOf}
 use Rattle.space.specs.Boxes.{countOf, placeOf, pointOf, backOf}
-use Rattle.job.specs.declared.Job.{Job}
+use Rattle.job.specs.declared.record.Job.{Job}
 use Rattle.job.specs.Record.{zeroVector}
 use Rattle.job.specs.Limits.{Acceptable}
 use Rattle.layout.specs.Layout.{fileOf}
 use Rattle.verdict.specs.Verdicts.{Says}
-use Rattle.verdict.specs.declared.Verdict.{Verdict}
-use Rattle.verdict.specs.declared.Verdict.the-variants.{Accepted}
+use Rattle.verdict.specs.declared.judge.Verdict.{Verdict}
+use Rattle.verdict.specs.declared.judge.Verdict.the-variants.{Accepted}
 use Rattle.verdict.proofs.Accepted.{past-limits}
 use Rattle.decisions.proofs.Answer.{answer}
 use Rattle.print.specs.Decimal.{digits, decimal}

@@ -4,14 +4,14 @@ use mathlib.Core.List.{List, [], _∷_}
 use Prim.Native.Nat.{ℕ, _*_}
 use lib.ListN.{length}
 use lib.IntN.{ℤ, pos, negsuc}
-use Rattle.space.specs.declared.Vector.{Vector}
-use Rattle.job.specs.declared.Stream.{Stream}
-use Rattle.job.specs.declared.Job.{Job}
+use Rattle.space.specs.declared.vector.Vector.{Vector}
+use Rattle.job.specs.declared.record.Stream.{Stream}
+use Rattle.job.specs.declared.record.Job.{Job}
 use Rattle.job.specs.Record.{zeroVector, noStream, points}
 use Rattle.verdict.specs.Verdicts.{Says}
-use Rattle.verdict.specs.declared.Extent.{Extent}
-use Rattle.verdict.specs.declared.Verdict.{Verdict}
-use Rattle.verdict.specs.declared.Verdict.the-variants.{Accepted, Precedence, Hop, Cell, Link}
+use Rattle.verdict.specs.declared.judge.Extent.{Extent}
+use Rattle.verdict.specs.declared.judge.Verdict.{Verdict}
+use Rattle.verdict.specs.declared.judge.Verdict.the-variants.{Accepted, Precedence, Hop, Cell, Link}
 use Rattle.array.specs.Loops.{Looped}
 use Rattle.verdict.specs.Extents.{ticks}
 use Rattle.array.specs.Runs.{Ran}

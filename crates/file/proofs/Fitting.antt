@@ -5,7 +5,7 @@ use native.Mathlib.Omega.{arith}
 use native.Mathlib.Nat.{mod-eq-of-lt}
 use lib.ListN.{getD}
 use lib.IntN.{ℤ}
-use Rattle.job.specs.declared.Job.{Job}
+use Rattle.job.specs.declared.record.Job.{Job}
 use Rattle.job.specs.Record.{streamsOf, rowsOf, noStream, zeroVector}
 use Rattle.job.specs.Limits.{Acceptable}
 use Rattle.job.proofs.Accepting.{stream-sound, row-sized}

@@ -6,10 +6,10 @@ use native.Mathlib.Omega.{arith}
 use native.Mathlib.Nat.{add-zero, add-suc, add-comm, mul-one, mul-comm}
 use lib.ListN.{length, getD, take, drop}
 use lib.Seq.{drop-cons, take-at}
-use Rattle.space.specs.declared.Vector.{Vector}
+use Rattle.space.specs.declared.vector.Vector.{Vector}
 use Rattle.space.specs.Vectors.{entries}
 use Rattle.space.specs.Boxes.{boxOf}
-use Rattle.job.specs.declared.Job.{Job}
+use Rattle.job.specs.declared.record.Job.{Job}
 use Rattle.layout.specs.Layout.{joined, entryBytes, vectorBytes, boxBytes, sideBytes}
 use Rattle.buffer.specs.Put.{Fits, Put}
 use Rattle.buffer.proofs.Putting.{and-then, first, left, put-as, fits-as, same-length}

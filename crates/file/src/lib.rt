@@ -1,7 +1,7 @@
 // The job's file, put into a lent buffer part by part: header, box, streams, matrices. Each part answers the place where the next one starts.
-use job::Job;
-use job::Stream;
-use space::Vector;
+use job::record::Job;
+use job::record::Stream;
+use space::vector::Vector;
 ghost use mathlib.Core.Path.{_≡_};
 ghost use Prim.Native.Nat.{_≤_};
 ghost use Rattle.job.specs.Limits.{Acceptable};
@@ -49,7 +49,7 @@ fn put_streams(buf: &mut [u8], at: usize, j: Job) -> usize
     let mut i: u8 = 0;
     let mut next = at;
     while i < j.m {
-        next = put_stream(buf, next, j.n, job::stream_at(j, i));
+        next = put_stream(buf, next, j.n, job::record::stream_at(j, i));
         i += 1;
     }
     next
@@ -63,7 +63,7 @@ fn put_matrices(buf: &mut [u8], at: usize, j: Job) -> usize
     let mut i: u8 = 0;
     let mut next = at;
     while i <= j.k {
-        next = put_vector(buf, next, j.n, job::row_at(j, i));
+        next = put_vector(buf, next, j.n, job::record::row_at(j, i));
         i += 1;
     }
     next

@@ -17,15 +17,15 @@ use Rattle.space.proofs.Machine.{held, held-as}
 use Rattle.space.proofs.BoxLaws.{SidesSized, in-solid, solid-in, point-in, place-below, steps-below}
 use Rattle.space.proofs.ExtremeLaws.{least-is, greatest-is}
 use Rattle.space.proofs.VectorLaws.{sized-up, dot-size}
-use Rattle.job.specs.declared.Job.{Job}
+use Rattle.job.specs.declared.record.Job.{Job}
 use Rattle.job.specs.Limits.{Acceptable}
 use Rattle.job.specs.Record.{box, points}
 use Rattle.job.proofs.Accepting.{solid, row0-sized, row1-sized, in-box-sized}
 use Rattle.verdict.specs.Mapping.{H, S}
 use Rattle.verdict.specs.Extents.{rectangle, cells, clock, ticks}
 use Rattle.verdict.specs.Verdicts.{Says}
-use Rattle.verdict.specs.declared.Extent.{Extent}
-use Rattle.verdict.specs.declared.Verdict.the-variants.{Accepted}
+use Rattle.verdict.specs.declared.judge.Extent.{Extent}
+use Rattle.verdict.specs.declared.judge.Verdict.the-variants.{Accepted}
 use Rattle.verdict.proofs.Accepted.{accepted-ahead, accepted-even}
 use Rattle.verdict.proofs.SizeLaws.{small-ends}
 use Rattle.bands.specs.Bands.{rectangleOf, Flat}

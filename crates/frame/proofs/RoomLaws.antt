@@ -9,7 +9,7 @@ use borrow.Author.Count.{below-more}
 use Rattle.space.specs.Numbers.{limit, up}
 use Rattle.space.specs.Vectors.{Sizes}
 use Rattle.space.proofs.Parts.{magnitude, le-parts}
-use Rattle.job.specs.declared.Job.{Job}
+use Rattle.job.specs.declared.record.Job.{Job}
 use Rattle.job.specs.Limits.{Acceptable}
 use Rattle.job.specs.Record.{along}
 use Rattle.job.proofs.Accepting.{row0-sized, row1-sized}

@@ -4,7 +4,7 @@ use Prim.Native.Nat.{ℕ, _+_, _*_}
 use lib.ListN.{getD}
 use Rattle.space.specs.Numbers.{steps}
 use Rattle.space.specs.Boxes.{placeOf, pointOf}
-use Rattle.job.specs.declared.Job.{Job}
+use Rattle.job.specs.declared.record.Job.{Job}
 use Rattle.job.specs.Record.{box}
 use Rattle.verdict.specs.Mapping.{H, S, w, delays}
 use Rattle.verdict.specs.Extents.{rectangle, cells, clock}

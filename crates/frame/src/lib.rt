@@ -1,8 +1,8 @@
 // The numbers of a job's array, worked out once: the rectangle of cells, the clock's start, the streams' bands; and the tick and the cell of a point.
 use bands::Band;
 use bands::Rectangle;
-use job::Job;
-use space::Vector;
+use job::record::Job;
+use space::vector::Vector;
 ghost use mathlib.Core.Path.{_≡_};
 ghost use Prim.Native.Nat.{ℕ, _+_, _<_, _≤_};
 ghost use lib.ListN.{length, getD};
@@ -69,7 +69,7 @@ pub fn tick_at(f: Frame, p: Vector) -> u64
     requires { ⌜ Framed f × In (box (f .job)) (entries p) ⌝ }
     ensures { λ r. ⌜ ((k : ℕ) → entries p ≡ pointOf (box (f .job)) k → r ≡ tickOf (f .job) k) ⌝ }
 {
-    space::boxes::steps_above(f.start, space::dot(f.job.time, p))
+    space::boxes::steps_above(f.start, space::vector::dot(f.job.time, p))
 }
 
 // The cell of a point of the box.

@@ -6,13 +6,13 @@ use native.Mathlib.Omega.{arith}
 use native.Mathlib.Decide.{decLe}
 use lib.ListN.{length, getD}
 use lib.IntN.{ℤ, pos}
-use Rattle.space.specs.declared.Vector.{Vector}
+use Rattle.space.specs.declared.vector.Vector.{Vector}
 use Rattle.space.specs.Numbers.{Size, coordinate, difference}
 use Rattle.space.specs.Vectors.{entries, Sized}
 use Rattle.space.proofs.VectorLaws.{sized-up}
 use Rattle.space.specs.Boxes.{Solid, boxOf, In}
 use Rattle.space.proofs.BoxLaws.{inside-sized}
-use Rattle.job.specs.declared.Job.{Job}
+use Rattle.job.specs.declared.record.Job.{Job}
 use Rattle.job.specs.Record.{FirstsFrom, streamsOf, rowsOf, noStream, zeroVector, along}
 use Rattle.job.specs.Limits.{Acceptable, Unused, Sound, rowLimit}
 

@@ -3,14 +3,14 @@ use mathlib.Core.List.{List, [], _∷_, _++_, map}
 use Prim.Native.Nat.{ℕ, _+_, _≤_}
 use lib.ListN.{length, take, replicate}
 use lib.IntN.{ℤ}
-use Rattle.space.specs.declared.Vector.{Vector}
+use Rattle.space.specs.declared.vector.Vector.{Vector}
 use Rattle.space.specs.Vectors.{entries, Sized}
 use Rattle.space.specs.Order.{Forward}
 use Rattle.space.specs.Divisors.{GcdOf, sizesOf}
 use Rattle.space.specs.Boxes.{Side, Box, Solid, countOf}
 use Rattle.space.proofs.Zeros.{zeros, flat}
-use Rattle.job.specs.declared.Stream.{Stream}
-use Rattle.job.specs.declared.Job.{Job}
+use Rattle.job.specs.declared.record.Stream.{Stream}
+use Rattle.job.specs.declared.record.Job.{Job}
 use Rattle.job.specs.Record.{box, stream, along, rowsOf, Firsts}
 use Rattle.job.specs.Limits.{boundLimit, pointLimit, stepLimit, rowLimit, Ruled}
 

@@ -8,15 +8,15 @@ use native.Mathlib.Decide.{decLe}
 use lib.ListN.{length, length-take, getD, take, replicate}
 use lib.Seq.{length-take-le}
 use lib.IntN.{ℤ, pos}
-use Rattle.space.specs.declared.Vector.{Vector}
+use Rattle.space.specs.declared.vector.Vector.{Vector}
 use Rattle.space.specs.declared.boxes.Bounds.{Bounds}
 use Rattle.space.specs.Vectors.{entries, Sized}
 use Rattle.space.specs.Boxes.{Side, Box, side, boxOf, In, countOf, placeOf, pointOf, backOf}
 use Rattle.space.proofs.Zeros.{zeros, flat}
 use Rattle.space.proofs.VectorLaws.{two}
 use Rattle.space.proofs.Padding.{sized-padded, gcd-padded, forward-padded, points-padded, bounds-padded, solid-padded, count-padded, place-padded, point-padded, back-padded}
-use Rattle.job.specs.declared.Stream.{Stream}
-use Rattle.job.specs.declared.Job.{Job}
+use Rattle.job.specs.declared.record.Stream.{Stream}
+use Rattle.job.specs.declared.record.Job.{Job}
 use Rattle.job.specs.Record.{FirstsFrom, OthersFrom, Firsts, noStream, streamsOf, rowsOf, box, points, stream, along}
 use Rattle.job.specs.Limits.{boundLimit, pointLimit, rowLimit, Unused, Idle, Shaped, Boxed, Sound, Rowed}
 use Rattle.job.proofs.Designs.{Design, whole, used, widen, BoxedOf, LineOf, SoundOf, RowedOf}

@@ -5,7 +5,7 @@ use Prim.Native.Nat.{ℕ}
 use native.Mathlib.Omega.{arith}
 use Rattle.job.specs.Refusals.{Checks, done, check, First, andThen}
 use Rattle.job.specs.Limits.{limits, Acceptable}
-use Rattle.job.specs.declared.Job.{Job}
+use Rattle.job.specs.declared.record.Job.{Job}
 
 pub first-unique : (cs : Checks) (r s : ℕ) → First cs r → First cs s → r ≡ s
 first-unique done r s p q = p ∙ sym q

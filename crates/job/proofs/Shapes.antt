@@ -9,8 +9,8 @@ use Rattle.space.specs.Vectors.{entries, Sized}
 use Rattle.space.specs.Order.{Forward}
 use Rattle.space.proofs.Telling.{tells-as, tells-le, told}
 use Rattle.space.specs.Divisors.{GcdOf, sizesOf}
-use Rattle.job.specs.declared.Stream.{Stream}
-use Rattle.job.specs.declared.Job.{Job}
+use Rattle.job.specs.declared.record.Stream.{Stream}
+use Rattle.job.specs.declared.record.Job.{Job}
 use Rattle.job.specs.Record.{Firsts, Others, streamsOf, rowsOf}
 use Rattle.job.specs.Limits.{Unused, Idle, Shaped, Ruled, Sound, stepLimit}
 

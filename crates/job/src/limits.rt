@@ -1,8 +1,8 @@
 // Whether a record is acceptable: refusals 3, 6, 7 and 8, each a question of its own.
-use crate::Job;
-use crate::Stream;
-use space::Vector;
+use crate::record::Job;
+use crate::record::Stream;
 use space::boxes::Bounds;
+use space::vector::Vector;
 ghost use Rattle.space.specs.Numbers.{Tells};
 ghost use Rattle.space.specs.Vectors.{entries, Sized};
 ghost use Rattle.job.specs.Refusals.{First};
@@ -91,7 +91,7 @@ fn is_sound(s: Stream, m: u8) -> bool
     ensures { λ r. ⌜ Tells (Sound m s) r ⌝ }
 {
     let d = s.d;
-    (is_sized(d, STEP_LIMIT) & space::is_forward(d))
+    (is_sized(d, STEP_LIMIT) & space::vector::is_forward(d))
         & ((space::divisor::gcd_of_entries(d) == 1) & ((s.kind <= 1) & is_ruled(s, m)))
 }
 

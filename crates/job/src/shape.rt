@@ -1,7 +1,7 @@
 // Refusal 3 of a record: its counts are in range, and every place that is not used is 0.
-use crate::Job;
-use crate::Stream;
-use space::Vector;
+use crate::record::Job;
+use crate::record::Stream;
+use space::vector::Vector;
 ghost use mathlib.Core.Path.{_≡_};
 ghost use Prim.Native.Nat.{_+_, _≤_};
 ghost use mathlib.Core.Bool.{true};

@@ -8,13 +8,13 @@ use native.Mathlib.Nat.{suc-inj, mod-eq-of-lt}
 use lib.ListN.{length, getD, take, drop, length-append}
 use lib.Seq.{take-at, drop-at}
 use lib.IntN.{ℤ, pos}
-use Rattle.space.specs.declared.Vector.{Vector}
+use Rattle.space.specs.declared.vector.Vector.{Vector}
 use Rattle.space.specs.declared.boxes.Bounds.{Bounds}
 use Rattle.space.specs.Vectors.{entries}
 use Rattle.space.specs.Boxes.{Side, boxOf}
 use Rattle.space.proofs.VectorLaws.{unfour, vector-same}
-use Rattle.job.specs.declared.Stream.{Stream}
-use Rattle.job.specs.declared.Job.{Job}
+use Rattle.job.specs.declared.record.Stream.{Stream}
+use Rattle.job.specs.declared.record.Job.{Job}
 use Rattle.job.specs.Record.{streamsOf, rowsOf, FirstsFrom, OthersFrom, Firsts, Others}
 use Rattle.job.specs.Limits.{Shaped, Unused, Idle}
 use Rattle.layout.specs.Layout.{joined, entryBytes, vectorBytes, streamBytes, totalOf, headerOf, boxBytes, streamsBytes, matrixBytes, fileOf, InByte, InBytes, Lays, sideBytes}

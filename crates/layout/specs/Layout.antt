@@ -4,11 +4,11 @@ use mathlib.Core.List.{List, [], _∷_, _++_}
 use Prim.Native.Nat.{ℕ, zero, suc, _+_, _*_, _-_, _/_, _%_, _^_}
 use lib.IntN.{ℤ, pos, negsuc}
 use lib.Signed.{_≤ℤ_}
-use Rattle.space.specs.declared.Vector.{Vector}
+use Rattle.space.specs.declared.vector.Vector.{Vector}
 use Rattle.space.specs.Vectors.{entries}
 use Rattle.space.specs.Boxes.{Side, boxOf}
-use Rattle.job.specs.declared.Stream.{Stream}
-use Rattle.job.specs.declared.Job.{Job}
+use Rattle.job.specs.declared.record.Stream.{Stream}
+use Rattle.job.specs.declared.record.Job.{Job}
 use Rattle.job.specs.Record.{streamsOf, rowsOf}
 use Rattle.job.specs.Limits.{Shaped}
 

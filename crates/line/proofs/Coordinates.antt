@@ -8,7 +8,7 @@ use lib.IntN.{ℤ}
 use lib.ListN.{take}
 use lib.Signed.{mag}
 use Rattle.space.specs.Vectors.{entries}
-use Rattle.space.specs.declared.Vector.{Vector}
+use Rattle.space.specs.declared.vector.Vector.{Vector}
 use Rattle.space.proofs.Machine.{held, back, in-range}
 use Rattle.buffer.specs.Put.{Fits, Put}
 use Rattle.line.specs.Fields.{Field, field, fieldsBytes, coordinates}

@@ -6,10 +6,10 @@ use native.Mathlib.Omega.{arith}
 use lib.IntN.{ℤ}
 use lib.ListN.{length, take, length-append}
 use Rattle.space.specs.Vectors.{entries}
-use Rattle.space.specs.declared.Vector.{Vector}
-use Rattle.verdict.specs.declared.Pair.{Pair}
-use Rattle.verdict.specs.declared.Verdict.{Verdict}
-use Rattle.verdict.specs.declared.Verdict.the-variants.{Accepted, Limit, Precedence, Hop, Cell, Link}
+use Rattle.space.specs.declared.vector.Vector.{Vector}
+use Rattle.verdict.specs.declared.judge.Pair.{Pair}
+use Rattle.verdict.specs.declared.judge.Verdict.{Verdict}
+use Rattle.verdict.specs.declared.judge.Verdict.the-variants.{Accepted, Limit, Precedence, Hop, Cell, Link}
 use Rattle.buffer.specs.Put.{Fits, Put}
 use Rattle.print.specs.Decimal.{decimal}
 use Rattle.print.specs.Words.{wordBytes}

@@ -5,11 +5,11 @@ use lib.IntN.{ℤ, pos}
 use lib.ListN.{take}
 use Rattle.space.specs.Vectors.{entries}
 use Rattle.verdict.specs.Verdicts.{numberOf}
-use Rattle.verdict.specs.declared.Collision.{Collision}
-use Rattle.verdict.specs.declared.Extent.{Extent}
-use Rattle.verdict.specs.declared.Pair.{Pair}
-use Rattle.verdict.specs.declared.Verdict.{Verdict}
-use Rattle.verdict.specs.declared.Verdict.the-variants.{Accepted, Limit, Precedence, Hop, Cell, Link}
+use Rattle.verdict.specs.declared.judge.Collision.{Collision}
+use Rattle.verdict.specs.declared.judge.Extent.{Extent}
+use Rattle.verdict.specs.declared.judge.Pair.{Pair}
+use Rattle.verdict.specs.declared.judge.Verdict.{Verdict}
+use Rattle.verdict.specs.declared.judge.Verdict.the-variants.{Accepted, Limit, Precedence, Hop, Cell, Link}
 use Rattle.print.specs.Decimal.{decimal}
 use Rattle.print.specs.Words.{wordBytes}
 use Rattle.print.specs.declared.words.Word.{Word}

@@ -3,7 +3,7 @@ use mathlib.Core.Path.{_≡_}
 use mathlib.Core.List.{List, _++_}
 use Prim.Native.Nat.{ℕ, _≤_, _<_}
 use lib.ListN.{length}
-use Rattle.verdict.specs.declared.Verdict.{Verdict}
+use Rattle.verdict.specs.declared.judge.Verdict.{Verdict}
 use Rattle.buffer.specs.Put.{Put}
 use Rattle.print.specs.Words.{wordBytes}
 use Rattle.print.specs.declared.words.Word.the-variants as Word

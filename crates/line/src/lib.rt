@@ -9,7 +9,7 @@ use print::line_writer::number;
 use print::line_writer::word;
 use print::numbers::Number;
 use print::words::Word;
-use verdict::Verdict;
+use verdict::judge::Verdict;
 ghost use mathlib.Core.Path.{_≡_};
 ghost use mathlib.Core.List.{_++_};
 ghost use Prim.Native.Nat.{_≤_};

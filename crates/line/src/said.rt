@@ -1,11 +1,11 @@
 // What a line says of a verdict past its first number, field by field: a word and a number each, put into a buffer from a place on.
 use print::numbers::Number;
 use print::words::Word;
-use space::Vector;
-use verdict::Collision;
-use verdict::Extent;
-use verdict::Pair;
-use verdict::Verdict;
+use space::vector::Vector;
+use verdict::judge::Collision;
+use verdict::judge::Extent;
+use verdict::judge::Pair;
+use verdict::judge::Verdict;
 ghost use Prim.Native.Nat.{_-_};
 ghost use mathlib.Core.List.{[], _∷_};
 ghost use lib.ListN.{take};

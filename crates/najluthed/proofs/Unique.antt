@@ -4,7 +4,7 @@ use mathlib.Core.List.{List}
 use Prim.Native.Nat.{ℕ}
 use Rattle.verdict.specs.Verdicts.{inNumbers}
 use Rattle.verdict.specs.Rooms.{countedOf as roomCounted}
-use Rattle.verdict.specs.declared.Verdict.{Verdict}
+use Rattle.verdict.specs.declared.judge.Verdict.{Verdict}
 use Rattle.verdict.specs.declared.room.Room.{Room}
 use Rattle.checks.specs.Answers.{countedOf as runCounted}
 use Rattle.checks.specs.declared.RunReply.{RunReply}

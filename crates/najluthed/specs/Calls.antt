@@ -2,10 +2,10 @@
 use mathlib.Core.Path.{_≡_}
 use mathlib.Core.List.{List}
 use Prim.Native.Nat.{ℕ}
-use Rattle.job.specs.declared.Counted.{Counted}
+use Rattle.job.specs.declared.numbers.Counted.{Counted}
 use Rattle.verdict.specs.Verdicts.{inNumbers}
 use Rattle.verdict.specs.Rooms.{countedOf as roomCounted}
-use Rattle.verdict.specs.declared.Verdict.{Verdict}
+use Rattle.verdict.specs.declared.judge.Verdict.{Verdict}
 use Rattle.verdict.specs.declared.numbers.InNumbers.{InNumbers}
 use Rattle.verdict.specs.declared.room.Room.{Room}
 use Rattle.checks.specs.Answers.{countedOf as runCounted}

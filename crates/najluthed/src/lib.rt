@@ -1,6 +1,6 @@
 // The library for C, C++, Rust and Python: each function takes job bytes and answers in numbers. Names and types are those of include/najluthed.h.
 use array::lookup::Looked;
-use job::Counted;
+use job::numbers::Counted;
 ghost use mathlib.Core.Path.{_≡_};
 ghost use Prim.Native.Nat.{_≤_};
 ghost use lib.ListN.{length};

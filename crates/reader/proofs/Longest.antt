@@ -6,7 +6,7 @@ use Prim.Native.Nat.{ℕ, _+_, _*_, _<_, _≤_}
 use native.Mathlib.Omega.{arith}
 use lib.ListN.{length, take}
 use lib.Seq.{getD-take, length-take-le}
-use Rattle.job.specs.declared.Job.{Job}
+use Rattle.job.specs.declared.record.Job.{Job}
 use Rattle.job.specs.Refusals.{First}
 use Rattle.job.specs.Limits.{Shaped}
 use Rattle.layout.specs.Layout.{fileOf}
@@ -14,8 +14,8 @@ use Rattle.layout.proofs.Injective.{file-length}
 use Rattle.layout.proofs.Totals.{total-small}
 use Rattle.header.specs.Header.{at, pairAt, Counted, Placed}
 use Rattle.reader.specs.Reading.{fileChecks, Reads}
-use Rattle.reader.specs.declared.Reading.{Reading}
-use Rattle.reader.specs.declared.Reading.the-variants as R
+use Rattle.reader.specs.declared.reading.Reading.{Reading}
+use Rattle.reader.specs.declared.reading.Reading.the-variants as R
 
 -- ---- the longest job
 pub longest : (j : Job) → Shaped j → length (fileOf j) ≤ 68

@@ -5,10 +5,10 @@ use mathlib.Core.List.{List}
 use Prim.Native.Nat.{ℕ, _+_, _<_, _≤_}
 use native.Mathlib.Decide.{decLe}
 use native.Mathlib.Omega.{arith}
-use Rattle.space.specs.declared.Vector.{Vector}
+use Rattle.space.specs.declared.vector.Vector.{Vector}
 use Rattle.space.specs.Vectors.{entries, Sized}
-use Rattle.job.specs.declared.Stream.{Stream}
-use Rattle.job.specs.declared.Job.{Job}
+use Rattle.job.specs.declared.record.Stream.{Stream}
+use Rattle.job.specs.declared.record.Job.{Job}
 use Rattle.job.specs.Refusals.{First}
 use Rattle.job.specs.Limits.{Unused, Idle, Shaped, Sound, Acceptable, rowLimit}
 use Rattle.job.proofs.Refusing.{first-unique, acceptable}
@@ -19,8 +19,8 @@ use Rattle.layout.proofs.Injective.{lays-unique, file-length}
 use Rattle.layout.proofs.Totals.{total-small}
 use Rattle.reader.specs.Reading.{fileChecks, Reads}
 use Rattle.reader.specs.Pieces.{Headed}
-use Rattle.reader.specs.declared.Reading.{Reading}
-use Rattle.reader.specs.declared.Reading.the-variants as R
+use Rattle.reader.specs.declared.reading.Reading.{Reading}
+use Rattle.reader.specs.declared.reading.Reading.the-variants as R
 use Rattle.reader.proofs.Places.{pair-value}
 use Rattle.reader.proofs.Replying.{record-first}
 

@@ -4,10 +4,10 @@ use mathlib.Core.List.{List}
 use Prim.Native.Nat.{ℕ, _+_, _*_, _≤_, _<_}
 use lib.IntN.{ℤ}
 use lib.ListN.{length, take, drop}
-use Rattle.space.specs.declared.Vector.{Vector}
+use Rattle.space.specs.declared.vector.Vector.{Vector}
 use Rattle.space.specs.declared.boxes.Bounds.{Bounds}
 use Rattle.space.specs.Boxes.{boxOf}
-use Rattle.job.specs.declared.Stream.{Stream}
+use Rattle.job.specs.declared.record.Stream.{Stream}
 use Rattle.job.specs.Record.{noStream, zeroVector}
 use Rattle.job.specs.Limits.{Unused}
 use Rattle.layout.specs.Layout.{complement, joined, vectorBytes, streamBytes, streamsFrom, matricesFrom, InByte, InBytes, sideBytes}

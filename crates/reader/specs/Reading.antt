@@ -2,14 +2,14 @@
 use mathlib.Core.Path.{_≡_}
 use mathlib.Core.List.{List}
 use Prim.Native.Nat.{ℕ}
-use Rattle.job.specs.declared.Job.{Job}
+use Rattle.job.specs.declared.record.Job.{Job}
 use Rattle.job.specs.Refusals.{Checks, done, check, First, andThen}
 use Rattle.job.specs.Record.{Firsts, streamsOf}
 use Rattle.job.specs.Limits.{Boxed, Sound, Rowed, Acceptable}
 use Rattle.layout.specs.Layout.{fileOf, Lays}
 use Rattle.header.specs.Header.{headChecks}
-use Rattle.reader.specs.declared.Reading.{Reading}
-use Rattle.reader.specs.declared.Reading.the-variants as R
+use Rattle.reader.specs.declared.reading.Reading.{Reading}
+use Rattle.reader.specs.declared.reading.Reading.the-variants as R
 
 -- 6 to 8, of the record that the bytes lay out: past 1 to 5 there is exactly one
 abbrev pub fileChecks : List ℕ → Checks

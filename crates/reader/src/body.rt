@@ -1,8 +1,8 @@
 // What follows the header: the box, the streams and the matrices, each piece from a part of the bytes.
-use job::Job;
-use job::Stream;
-use space::Vector;
+use job::record::Job;
+use job::record::Stream;
 use space::boxes::Bounds;
+use space::vector::Vector;
 ghost use mathlib.Core.Path.{_≡_};
 ghost use Prim.Native.Nat.{ℕ, _+_, _*_, _≤_};
 ghost use lib.ListN.{length};
@@ -60,7 +60,7 @@ fn stream_or(s: &[u8], n: usize, m: usize, i: usize) -> Stream
         return stream_of(&s[from..end], n);
     }
     Stream {
-        d: space::ZERO,
+        d: space::vector::ZERO,
         kind: 0,
         rule: 0,
         a: 0,
@@ -78,7 +78,7 @@ fn row_or(s: &[u8], n: usize, k: usize, m: usize, i: usize) -> Vector
         let end = from + n;
         return vector_of(&s[from..end]);
     }
-    space::ZERO
+    space::vector::ZERO
 }
 
 // A stream: d, kind, rule, a, b.

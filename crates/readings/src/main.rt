@@ -1,7 +1,7 @@
 // Runs byte strings through the reader and, where they are a job, back through the writer. What it prints is held against the stored output.
-use job::Job;
+use job::record::Job;
 use libc::STDOUT_FILENO;
-use reader::Reading;
+use reader::reading::Reading;
 use writer::Wrote;
 
 // The 30 bytes of document 01: box 0..1 squared, one local stream along (0,1), H (1,2), S (1,2).
@@ -71,7 +71,7 @@ fn wide(n: u8) -> u64 {
 // One line: the name, and what the reader answers.
 fn tell(name: &[u8], s: &[u8]) {
     say(name);
-    let read = reader::read(s);
+    let read = reader::reading::read(s);
     match read {
         Reading::Refused(n) => {
             say(b": refused ");

@@ -11,14 +11,14 @@ use crate::print::number;
 use crate::print::reply;
 use crate::print::say;
 use crate::print::wide;
-use job::Counted;
-use job::Job;
-use verdict::Verdict;
+use job::numbers::Counted;
+use job::record::Job;
+use verdict::judge::Verdict;
 
 // The replies of run and loop, with the run's value table and so many of 80 places lent; then their values side by side, or that nothing was altered.
 pub fn compare(j: Job, input: &[u32], run: &mut [u32], lent: usize) {
     let mut places = [GUARD; 80];
-    let a = checks::counted(array::run_of(j, input, &mut run[..], part(&mut places, lent)));
+    let a = checks::counted(array::run::run_of(j, input, &mut run[..], part(&mut places, lent)));
     reply(b"run", a, b" 0 ticks");
     unchanged(a, &run[..], &places);
     beside(j, input, a, &run[..]);
@@ -68,7 +68,7 @@ fn stream(s: u8, run: &[u32], looped: &[u32]) {
 
 // R of an accepted job.
 fn room_of(j: Job) -> usize {
-    let v = verdict::verdict_of(j);
+    let v = verdict::judge::verdict_of(j);
     let Verdict::Accepted(extent) = v else {
         return 0;
     };
@@ -101,7 +101,7 @@ fn is_ticked(j: Job, input: &[u32], ticks: u64, run: &[u32], places: &[u32]) -> 
 fn each_tick(j: Job, input: &[u32], ticks: u64, table: &mut [u32], places: &mut [u32]) -> bool {
     let mut all = true;
     for t in 0..ticks {
-        let a = checks::counted(array::tick_of(j, t, input, &mut table[..], &mut places[..]));
+        let a = checks::counted(array::run::tick_of(j, t, input, &mut table[..], &mut places[..]));
         all = all & (a.number == 0) & (a.count == ticks);
     }
     all

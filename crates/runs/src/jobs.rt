@@ -1,8 +1,8 @@
 // The jobs that are run: those of the paper's list that are accepted, matrix products, and jobs to be refused.
-use job::Job;
-use job::Stream;
-use space::Vector;
+use job::record::Job;
+use job::record::Stream;
 use space::boxes::Bounds;
+use space::vector::Vector;
 
 // A vector of three entries.
 pub fn vector(x0: i64, x1: i64, x2: i64) -> Vector {

@@ -18,9 +18,9 @@ use crate::print::every;
 use crate::print::reply;
 use crate::print::say;
 use crate::timetable::timetable;
-use job::Counted;
-use job::Job;
-use space::Vector;
+use job::numbers::Counted;
+use job::record::Job;
+use space::vector::Vector;
 
 fn main() {
     starred();
@@ -144,7 +144,7 @@ fn ticks() {
 fn tick(from: [u32; 3], rule: u8, t: u64, n: usize, lent: usize) {
     let mut table = [GUARD; 3];
     let mut places = from;
-    let a = checks::counted(array::tick_of(
+    let a = checks::counted(array::run::tick_of(
         crate::jobs::line(rule),
         t,
         &[1, 2, 3],

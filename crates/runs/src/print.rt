@@ -1,7 +1,7 @@
 // Words, numbers and lines of output.
-use job::Counted;
+use job::numbers::Counted;
 use libc::STDOUT_FILENO;
-use space::Vector;
+use space::vector::Vector;
 ghost use Prim.Native.Nat.{_<_};
 
 // The text as it is.

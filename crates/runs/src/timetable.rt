@@ -3,7 +3,7 @@ use crate::print::number;
 use crate::print::say;
 use crate::print::wide;
 use array::lookup::Lookup;
-use job::Job;
+use job::record::Job;
 
 // A line for each tick.
 pub fn timetable(title: &[u8], j: Job, ticks: u64, cells: u64) {

@@ -1,5 +1,5 @@
 // The box of points and its order: lexicographic, the first coordinate most significant.
-use crate::Vector;
+use crate::vector::Vector;
 ghost use mathlib.Core.Path.{_≡_};
 ghost use mathlib.Core.Bool.{cond};
 ghost use mathlib.Core.List.{List, [], _∷_, map, zipWith};
@@ -74,7 +74,7 @@ pub fn point(b: Bounds, k: u64) -> Vector
     ensures { λ r. ⌜ entries r ≡ pointOf (boxOf b) k ⌝ }
 {
     let l = b.low;
-    crate::plus(l, offset(k, lengths(b)))
+    crate::vector::plus(l, offset(k, lengths(b)))
 }
 
 // The point after p in box order. After the last there is none, and the answer is any.
@@ -121,7 +121,7 @@ pub fn back(b: Bounds, d: Vector, p: Vector) -> Found
     requires { ⌜ Sized difference (entries (b .low)) × Sized difference (entries (b .high)) × Sized difference (entries d) × In (boxOf b) (entries p) ⌝ }
     ensures { λ r. ⌜ ((k : ℕ) → entries p ≡ pointOf (boxOf b) k → foundOf r ≡ backOf (boxOf b) (entries d) k) ⌝ }
 {
-    let q = crate::minus(p, d);
+    let q = crate::vector::minus(p, d);
     if contains(b, q) {
         Found::At(place(b, q))
     } else {
@@ -134,7 +134,7 @@ fn least(h: Vector, b: Bounds) -> i64
     requires { ⌜ Sized limit (entries h) × Sized limit (entries (b .low)) × Sized limit (entries (b .high)) × Solid (boxOf b) ⌝ }
     ensures { λ r. ⌜ Least (entries h) (boxOf b) r ⌝ }
 {
-    crate::dot(h, least_corner(h, b))
+    crate::vector::dot(h, least_corner(h, b))
 }
 
 // The greatest product of a row and a point of the box: the least of the opposite row, turned.
@@ -142,7 +142,7 @@ fn greatest(h: Vector, b: Bounds) -> i64
     requires { ⌜ Sized limit (entries h) × Sized limit (entries (b .low)) × Sized limit (entries (b .high)) × Solid (boxOf b) ⌝ }
     ensures { λ r. ⌜ Greatest (entries h) (boxOf b) r ⌝ }
 {
-    0 - least(crate::times(-1, h), b)
+    0 - least(crate::vector::times(-1, h), b)
 }
 
 // The reach of a row.
@@ -169,8 +169,8 @@ pub fn differences(b: Bounds) -> Bounds
     let l = b.low;
     let u = b.high;
     Bounds {
-        low: crate::minus(l, u),
-        high: crate::minus(u, l),
+        low: crate::vector::minus(l, u),
+        high: crate::vector::minus(u, l),
     }
 }
 
@@ -181,7 +181,7 @@ pub fn least_start(b: Bounds, y: Vector) -> Vector
     ensures least { λ r. ⌜ ((p : List ℤ) → In (boxOf b) p → In (boxOf b) (plusOf p (entries y)) → AtMost (entries r) p) ⌝ }
 {
     let l = b.low;
-    let s = crate::minus(l, y);
+    let s = crate::vector::minus(l, y);
     Vector {
         x0: greater(l.x0, s.x0),
         x1: greater(l.x1, s.x1),
@@ -234,7 +234,7 @@ fn lengths(b: Bounds) -> Counts
     };
     let l = b.low;
     let u = b.high;
-    steps_each(l, crate::plus(u, one))
+    steps_each(l, crate::vector::plus(u, one))
 }
 
 // What the point at place k has over the low corner of any box with n points on each side: the digits of k.

@@ -1,5 +1,5 @@
 // Greatest common divisors.
-use crate::Vector;
+use crate::vector::Vector;
 ghost use mathlib.Core.Path.{_≡_};
 ghost use mathlib.Core.List.{[], _∷_};
 ghost use lib.IntN.{natAbs};

@@ -1,5 +1,5 @@
 // The test of one vector against another: which whole multiple it is.
-use crate::Vector;
+use crate::vector::Vector;
 ghost use mathlib.Core.Path.{_≡_};
 ghost use lib.IntN.{ℤ, pos, _*ℤ_};
 ghost use Rattle.space.specs.Numbers.{Size, limit};
@@ -39,7 +39,7 @@ fn quotient_tried(y: Vector, d: Vector, a: i64, b: i64) -> Multiple
         return Multiple::No;
     }
     let z = a / b;
-    if crate::is_same(y, crate::times(z, d)) {
+    if crate::vector::is_same(y, crate::vector::times(z, d)) {
         Multiple::Times(z)
     } else {
         Multiple::No

@@ -15,7 +15,7 @@ use borrow.Author.Count.{below-more}
 use Rattle.space.specs.Numbers.{Tells}
 use Rattle.space.proofs.Telling.{tells-and, tells-eq}
 use Rattle.space.proofs.BackLaws.{back-before}
-use Rattle.job.specs.declared.Job.{Job}
+use Rattle.job.specs.declared.record.Job.{Job}
 use Rattle.job.specs.Refusals.{done}
 use Rattle.job.specs.Limits.{Acceptable, pointLimit}
 use Rattle.job.proofs.Accepting.{stream-sound}

@@ -1,5 +1,5 @@
 // One stream's row of a table, as a part of the table itself.
-use job::Job;
+use job::record::Job;
 ghost use Rattle.job.specs.Limits.{Acceptable};
 ghost use Rattle.tables.specs.Rows.{Row};
 
@@ -18,7 +18,7 @@ pub fn row_within<'a>(j: Job, table: &'a [u32], s: u8) -> &'a [u32]
     requires { ⌜ Acceptable j ⌝ }
     ensures { λ r. ⌜ Row j (now (table .entry)) s (now r) ⌝ }
 {
-    if table.len() != crate::size_of(j) {
+    if table.len() != crate::table::size_of(j) {
         return &table[..0];
     }
     if j.m <= s {

@@ -7,16 +7,16 @@ use native.Mathlib.Omega.{arith}
 use lib.IntN.{ℤ}
 use types.Run.{OneOf, miss}
 use denote.Enum.Declared.{tagOf}
-use Rattle.job.specs.declared.Job.{Job}
+use Rattle.job.specs.declared.record.Job.{Job}
 use Rattle.job.specs.Refusals.{First}
 use Rattle.job.specs.Limits.{limits, Acceptable}
 use Rattle.job.proofs.Refusing.{Passes, first-passes, past-first, within}
 use Rattle.verdict.specs.Rules.{Ahead, Even, SameCell, Clear, All, rules}
 use Rattle.verdict.specs.Verdicts.{Says, numberOf}
-use Rattle.verdict.specs.declared.Extent.{Extent}
-use Rattle.verdict.specs.declared.Verdict.{Verdict}
-use Rattle.verdict.specs.declared.Verdict.the-variants.{Accepted, Limit, Precedence, Hop, Cell, Link}
-use Rattle.verdict.proofs.Verdict.{the-type}
+use Rattle.verdict.specs.declared.judge.Extent.{Extent}
+use Rattle.verdict.specs.declared.judge.Verdict.{Verdict}
+use Rattle.verdict.specs.declared.judge.Verdict.the-variants.{Accepted, Limit, Precedence, Hop, Cell, Link}
+use Rattle.verdict.proofs.judge.Verdict.{the-type}
 use Rattle.verdict.proofs.Unique.{says-unique}
 
 -- a verdict that is not the first variant has a number

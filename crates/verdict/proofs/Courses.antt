@@ -13,7 +13,7 @@ use Rattle.space.specs.Divisors.{GcdOf, gcdOf}
 use Rattle.space.proofs.Parts.{int}
 use Rattle.space.proofs.Ints.{trichotomy, dvd-whole, natAbs-zero, times-none}
 use Rattle.space.proofs.DivisorLaws.{gcd-is}
-use Rattle.job.specs.declared.Job.{Job}
+use Rattle.job.specs.declared.record.Job.{Job}
 use Rattle.job.specs.Record.{along}
 use Rattle.verdict.specs.Mapping.{S, Stationary, g, orOne, hops, hop}
 

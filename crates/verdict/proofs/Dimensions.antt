@@ -17,7 +17,7 @@ use Rattle.space.proofs.VectorLaws.{minus-length}
 use Rattle.space.proofs.BoxLaws.{in-length}
 use Rattle.space.proofs.DivisorLaws.{gcd-is, gcd-more}
 use Rattle.space.proofs.Padding.{dot-zeros, dot-padded, minus-padded, same-padded, multiple-padded, before-padded, in-padded, points-padded, count-padded, reach-padded, reach-zeros}
-use Rattle.job.specs.declared.Job.{Job}
+use Rattle.job.specs.declared.record.Job.{Job}
 use Rattle.job.specs.Limits.{Shaped}
 use Rattle.job.proofs.Designs.{Design, whole, used, widen}
 use Rattle.job.proofs.Dimensions.{Each, Dimensions, used-dimensions, by-whole}

@@ -12,7 +12,7 @@ use Rattle.space.proofs.Parts.{int, difference}
 use Rattle.space.proofs.VectorLaws.{plus-minus, minus-plus, minus-length, dot-minus, untwo}
 use Rattle.space.proofs.OrderLaws.{before-forward, forward-before}
 use Rattle.space.proofs.BoxLaws.{in-length}
-use Rattle.job.specs.declared.Job.{Job}
+use Rattle.job.specs.declared.record.Job.{Job}
 use Rattle.job.specs.Record.{box}
 use Rattle.verdict.specs.Mapping.{H, S, Stationary}
 use Rattle.verdict.specs.Collisions.{senders}

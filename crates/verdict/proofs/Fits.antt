@@ -4,14 +4,14 @@ use mathlib.Core.List.{List}
 use Prim.Native.Nat.{ℕ, _<_}
 use native.Mathlib.Omega.{arith}
 use lib.IntN.{ℤ}
-use Rattle.space.specs.declared.Vector.{Vector}
+use Rattle.space.specs.declared.vector.Vector.{Vector}
 use Rattle.space.specs.Numbers.{Size, limit, difference}
 use Rattle.space.specs.Vectors.{entries, dotOf, Sized}
 use Rattle.space.specs.Boxes.{countOf}
 use Rattle.space.proofs.Ints.{size-up}
 use Rattle.space.proofs.VectorLaws.{sized-up, dot-size}
-use Rattle.job.specs.declared.Job.{Job}
-use Rattle.job.specs.declared.Stream.{Stream}
+use Rattle.job.specs.declared.record.Job.{Job}
+use Rattle.job.specs.declared.record.Stream.{Stream}
 use Rattle.job.specs.Limits.{Acceptable, rowLimit}
 use Rattle.job.proofs.Accepting.{along-sized, time-sized, row0-sized, row1-sized, solid}
 use Rattle.job.specs.Record.{box, stream}

@@ -9,7 +9,7 @@ use native.Mathlib.Nat.{suc-inj, mul-le-mul}
 use lib.ListN.{length}
 use lib.IntN.{ℤ, pos}
 use denote.Enum.Declared.{tagOf}
-use Rattle.space.specs.declared.Vector.{Vector}
+use Rattle.space.specs.declared.vector.Vector.{Vector}
 use Rattle.space.specs.declared.boxes.Bounds.{Bounds}
 use Rattle.space.specs.Numbers.{difference}
 use Rattle.space.specs.Vectors.{entries, plusOf, Sized}
@@ -17,7 +17,7 @@ use Rattle.space.specs.Order.{Before, AtMost, Forward}
 use Rattle.space.specs.Boxes.{Box, boxOf, In, Apart, Solid, countOf, placeOf, pointOf}
 use Rattle.space.proofs.Parts.{int, sum}
 use Rattle.space.proofs.BoxLaws.{SidesSized, inside-sized, stands-in, across-size, in-length, lowsOf, solid-in, place-below, place-point, point-place, place-injective, before-place, place-before}
-use Rattle.job.specs.declared.Job.{Job}
+use Rattle.job.specs.declared.record.Job.{Job}
 use Rattle.verdict.specs.Searches.{FindsGap, CollidesBySome, FindsHops}
 use Rattle.verdict.specs.declared.walk.FoundHops.{FoundHops}
 use Rattle.verdict.specs.declared.walk.FoundHops.the-variants as FoundHops

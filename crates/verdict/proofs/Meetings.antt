@@ -22,8 +22,8 @@ use Rattle.space.proofs.VectorLaws.{four, unfour, two, untwo}
 use Rattle.space.proofs.Telling.{tells-as, tells-and, tells-le, tells-below}
 use Rattle.space.proofs.MultipleLaws.{times-cancel}
 use Rattle.space.proofs.DivisorLaws.{gcd-unique, gcd-zero}
-use Rattle.job.specs.declared.Job.{Job}
-use Rattle.job.specs.declared.Stream.{Stream}
+use Rattle.job.specs.declared.record.Job.{Job}
+use Rattle.job.specs.declared.record.Stream.{Stream}
 use Rattle.job.specs.Limits.{Acceptable}
 use Rattle.job.specs.Record.{stream, along}
 use Rattle.verdict.specs.Mapping.{H, S, g, Stationary, orOne, hops, hop, delay}

@@ -3,13 +3,13 @@ use mathlib.Core.Path.{_≡_, refl, sym, ap, subst, _∙_}
 use mathlib.Core.List.{List}
 use Prim.Native.Nat.{ℕ}
 use lib.IntN.{ℤ}
-use Rattle.space.specs.declared.Vector.{Vector}
+use Rattle.space.specs.declared.vector.Vector.{Vector}
 use Rattle.space.specs.Vectors.{entries, timesOf}
 use Rattle.space.proofs.VectorLaws.{vector-of}
 use Rattle.space.proofs.OrderLaws.{at-most-both}
 use Rattle.space.specs.Boxes.{Box}
 use Rattle.space.proofs.MultipleLaws.{times-cancel}
-use Rattle.job.specs.declared.Job.{Job}
+use Rattle.job.specs.declared.record.Job.{Job}
 use Rattle.verdict.specs.Mapping.{S, Stationary, hop}
 use Rattle.verdict.specs.Searches.{CollidesBy, FindsGap, FindsLink}
 use Rattle.verdict.specs.declared.walk.FoundLink.{FoundLink}

@@ -5,18 +5,18 @@ use mathlib.Core.List.{List}
 use Prim.Native.Nat.{ℕ, _<_}
 use lib.IntN.{ℤ}
 use Rattle.space.specs.Vectors.{entries}
-use Rattle.job.specs.declared.Job.{Job}
+use Rattle.job.specs.declared.record.Job.{Job}
 use Rattle.job.specs.Refusals.{First}
 use Rattle.job.specs.Limits.{limits, Acceptable}
 use Rattle.job.proofs.Refusing.{stop-first, then-first, passes}
 use Rattle.verdict.specs.Extents.{ExtentOf}
 use Rattle.verdict.specs.Rules.{Ahead, Even, SameCell, Clear, All, rules}
 use Rattle.verdict.specs.Verdicts.{Lowest, Claims, Says, numberOf}
-use Rattle.verdict.specs.declared.Extent.{Extent}
-use Rattle.verdict.specs.declared.Pair.{Pair}
-use Rattle.verdict.specs.declared.Collision.{Collision}
-use Rattle.verdict.specs.declared.Verdict.{Verdict}
-use Rattle.verdict.specs.declared.Verdict.the-variants.{Accepted, Limit, Precedence, Hop, Cell, Link}
+use Rattle.verdict.specs.declared.judge.Extent.{Extent}
+use Rattle.verdict.specs.declared.judge.Pair.{Pair}
+use Rattle.verdict.specs.declared.judge.Collision.{Collision}
+use Rattle.verdict.specs.declared.judge.Verdict.{Verdict}
+use Rattle.verdict.specs.declared.judge.Verdict.the-variants.{Accepted, Limit, Precedence, Hop, Cell, Link}
 
 -- a limit is broken
 pub says-limit : {j : Job} {r : ℕ} → Claims j (Limit r) → Says j (Limit r)

@@ -13,7 +13,7 @@ use Rattle.space.proofs.Parts.{int}
 use Rattle.space.proofs.Ints.{natAbs-quot, quot-up}
 use Rattle.space.proofs.VectorLaws.{dot-size, sized-up}
 use Rattle.space.proofs.BoxLaws.{sides-sized, across-size}
-use Rattle.job.specs.declared.Job.{Job}
+use Rattle.job.specs.declared.record.Job.{Job}
 use Rattle.job.specs.Limits.{Acceptable, rowLimit, stepLimit}
 use Rattle.job.specs.Record.{along, box}
 use Rattle.verdict.specs.Mapping.{H, hops, delay, delays}

@@ -9,12 +9,12 @@ use native.Mathlib.Decide.{decLe}
 use lib.Dec.{eqb}
 use lib.ListN.{length}
 use lib.IntN.{ℤ}
-use Rattle.space.specs.declared.Vector.{Vector}
+use Rattle.space.specs.declared.vector.Vector.{Vector}
 use Rattle.space.specs.Vectors.{entries, plusOf, minusOf}
 use Rattle.space.specs.Order.{Before, AtMost}
 use Rattle.space.proofs.VectorLaws.{plus-minus, vector-of}
 use Rattle.space.proofs.OrderLaws.{before-irreflexive, before-trans, at-most-both}
-use Rattle.job.specs.declared.Job.{Job}
+use Rattle.job.specs.declared.record.Job.{Job}
 use Rattle.job.specs.Refusals.{andThen}
 use Rattle.job.specs.Limits.{limits}
 use Rattle.job.proofs.Refusing.{first-unique, number-of}
@@ -23,13 +23,13 @@ use Rattle.verdict.specs.Extents.{ExtentOf}
 use Rattle.verdict.specs.Rules.{Collides, CollidesSome, rules}
 use Rattle.verdict.specs.Verdicts.{Lowest, FirstPair, inNumbers, numberOf, Claims, Says}
 use Rattle.verdict.specs.Rooms.{roomOf, Counts}
-use Rattle.verdict.specs.declared.Extent.{Extent}
-use Rattle.verdict.specs.declared.Pair.{Pair}
-use Rattle.verdict.specs.declared.Collision.{Collision}
+use Rattle.verdict.specs.declared.judge.Extent.{Extent}
+use Rattle.verdict.specs.declared.judge.Pair.{Pair}
+use Rattle.verdict.specs.declared.judge.Collision.{Collision}
 use Rattle.verdict.specs.declared.numbers.InNumbers.{InNumbers}
 use Rattle.verdict.specs.declared.room.Room.{Room}
-use Rattle.verdict.specs.declared.Verdict.{Verdict}
-use Rattle.verdict.specs.declared.Verdict.the-variants.{Accepted, Limit, Precedence, Hop, Cell, Link}
+use Rattle.verdict.specs.declared.judge.Verdict.{Verdict}
+use Rattle.verdict.specs.declared.judge.Verdict.the-variants.{Accepted, Limit, Precedence, Hop, Cell, Link}
 
 -- ---- one reply of each kind
 lowest-unique : {P : ℕ → Type 0} {m s t : ℕ} → Lowest P m s → Lowest P m t → s ≡ t

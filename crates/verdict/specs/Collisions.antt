@@ -5,7 +5,7 @@ use Prim.Native.Nat.{ℕ, zero, suc, _<_, _≤_}
 use lib.IntN.{ℤ, natAbs}
 use Rattle.space.specs.Vectors.{timesOf}
 use Rattle.space.specs.Boxes.{Box}
-use Rattle.job.specs.declared.Job.{Job}
+use Rattle.job.specs.declared.record.Job.{Job}
 use Rattle.job.specs.Record.{box}
 
 -- the points that send a token along the stream: 'every box point is taken to send its value'

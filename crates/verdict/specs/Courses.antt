@@ -4,7 +4,7 @@ use mathlib.Core.List.{List, [], _∷_, _++_}
 use Prim.Native.Nat.{ℕ}
 use lib.IntN.{ℤ, pos}
 use Rattle.space.specs.Vectors.{entries, dotOf}
-use Rattle.job.specs.declared.Job.{Job}
+use Rattle.job.specs.declared.record.Job.{Job}
 use Rattle.verdict.specs.Mapping.{H, g, hop, delay}
 use Rattle.verdict.specs.declared.course.Course.{Course}
 

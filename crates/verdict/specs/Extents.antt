@@ -4,10 +4,10 @@ use mathlib.Core.List.{[], _∷_}
 use Prim.Native.Nat.{ℕ, _*_}
 use Rattle.space.specs.Vectors.{entries}
 use Rattle.space.specs.Boxes.{Side, Box, across, countOf, reach}
-use Rattle.job.specs.declared.Job.{Job}
+use Rattle.job.specs.declared.record.Job.{Job}
 use Rattle.job.specs.Record.{box}
 use Rattle.verdict.specs.Mapping.{delays}
-use Rattle.verdict.specs.declared.Extent.{Extent}
+use Rattle.verdict.specs.declared.judge.Extent.{Extent}
 
 -- the rectangle of cells; box order in it is row-major
 abbrev pub rectangle : Job → Box

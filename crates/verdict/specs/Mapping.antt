@@ -7,7 +7,7 @@ use lib.Signed.{quotZ}
 use Rattle.space.specs.Numbers.{up}
 use Rattle.space.specs.Vectors.{entries, dotOf}
 use Rattle.space.specs.Divisors.{gcdOf}
-use Rattle.job.specs.declared.Job.{Job}
+use Rattle.job.specs.declared.record.Job.{Job}
 use Rattle.job.specs.Record.{along}
 
 -- 'Write Hx, Sx for the products': Sx has an entry for each place row, 0 for the second where k = 1

@@ -1,9 +1,9 @@
 -- The room count: 'Verdict and room count use 1 to 12'.
 use mathlib.Core.Path.{_≡_}
-use Rattle.job.specs.declared.Counted.{Counted}
+use Rattle.job.specs.declared.numbers.Counted.{Counted}
 use Rattle.verdict.specs.Verdicts.{numberOf}
-use Rattle.verdict.specs.declared.Verdict.{Verdict}
-use Rattle.verdict.specs.declared.Verdict.the-variants.{Accepted, Limit, Precedence, Hop, Cell, Link}
+use Rattle.verdict.specs.declared.judge.Verdict.{Verdict}
+use Rattle.verdict.specs.declared.judge.Verdict.the-variants.{Accepted, Limit, Precedence, Hop, Cell, Link}
 use Rattle.verdict.specs.declared.room.Room.{Room}
 use Rattle.verdict.specs.declared.room.Room.the-variants.{Places, Refused}
 

@@ -7,7 +7,7 @@ use lib.Signed.{_≤ℤ_}
 use Rattle.space.specs.Vectors.{minusOf, timesOf}
 use Rattle.space.specs.Order.{Before}
 use Rattle.space.specs.Boxes.{Box, In}
-use Rattle.job.specs.declared.Job.{Job}
+use Rattle.job.specs.declared.record.Job.{Job}
 use Rattle.job.specs.Refusals.{Checks, done, check}
 use Rattle.job.specs.Record.{box, stream, along}
 use Rattle.verdict.specs.Mapping.{H, S, g, Stationary, hop, delay}

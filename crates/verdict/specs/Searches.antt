@@ -6,7 +6,7 @@ use lib.IntN.{ℤ, pos, _*ℤ_}
 use Rattle.space.specs.Vectors.{entries, timesOf}
 use Rattle.space.specs.Order.{Forward, AtMost}
 use Rattle.space.specs.Boxes.{Box, Apart}
-use Rattle.job.specs.declared.Job.{Job}
+use Rattle.job.specs.declared.record.Job.{Job}
 use Rattle.job.specs.Record.{stream, along}
 use Rattle.verdict.specs.Mapping.{H, S, g, hop, delay}
 use Rattle.verdict.specs.Collisions.{IsCollision, senders}

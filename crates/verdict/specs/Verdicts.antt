@@ -6,18 +6,18 @@ use Prim.Native.Nat.{ℕ, _<_}
 use lib.IntN.{ℤ, pos}
 use Rattle.space.specs.Vectors.{entries, minusOf}
 use Rattle.space.specs.Order.{Before, AtMost}
-use Rattle.job.specs.declared.Job.{Job}
+use Rattle.job.specs.declared.record.Job.{Job}
 use Rattle.job.specs.Record.{zeroVector}
 use Rattle.job.specs.Refusals.{First, andThen}
 use Rattle.job.specs.Limits.{limits}
 use Rattle.verdict.specs.Extents.{ExtentOf}
 use Rattle.verdict.specs.Rules.{Ahead, Even, SameCell, Collides, CollidesSome, Clear, rules}
-use Rattle.verdict.specs.declared.Extent.{Extent}
-use Rattle.verdict.specs.declared.Pair.{Pair}
-use Rattle.verdict.specs.declared.Collision.{Collision}
+use Rattle.verdict.specs.declared.judge.Extent.{Extent}
+use Rattle.verdict.specs.declared.judge.Pair.{Pair}
+use Rattle.verdict.specs.declared.judge.Collision.{Collision}
 use Rattle.verdict.specs.declared.numbers.InNumbers.{InNumbers}
-use Rattle.verdict.specs.declared.Verdict.{Verdict}
-use Rattle.verdict.specs.declared.Verdict.the-variants.{Accepted, Limit, Precedence, Hop, Cell, Link}
+use Rattle.verdict.specs.declared.judge.Verdict.{Verdict}
+use Rattle.verdict.specs.declared.judge.Verdict.the-variants.{Accepted, Limit, Precedence, Hop, Cell, Link}
 
 -- 'lowest stream first': s is the first of m streams of which P does not hold
 pub record Lowest (P : ℕ → Type 0) (m s : ℕ) : Type 0 where

@@ -1,6 +1,6 @@
 // Where a job puts a point, and the course that a stream takes: one hop, and how many hops make d.
-use job::Job;
-use space::Vector;
+use job::record::Job;
+use space::vector::Vector;
 ghost use mathlib.Core.Path.{_≡_};
 ghost use Prim.Native.Nat.{_<_};
 ghost use Rattle.space.specs.Numbers.{difference};
@@ -24,9 +24,9 @@ pub fn time_and_place(j: Job, x: Vector) -> Vector
     let row0 = j.row0;
     let row1 = j.row1;
     Vector {
-        x0: space::dot(h, x),
-        x1: space::dot(row0, x),
-        x2: space::dot(row1, x),
+        x0: space::vector::dot(h, x),
+        x1: space::vector::dot(row0, x),
+        x2: space::vector::dot(row1, x),
         x3: 0,
     }
 }
@@ -43,7 +43,7 @@ pub fn course_of(j: Job, s: u8) -> Course
     requires { ⌜ Acceptable j × (s < j .m) ⌝ }
     ensures { λ r. ⌜ CourseOf j s r ⌝ }
 {
-    let t = job::stream_at(j, s);
+    let t = job::record::stream_at(j, s);
     let d = t.d;
     let v = time_and_place(j, d);
     let g = space::divisor::gcd(space::divisor::size(v.x1), space::divisor::size(v.x2));

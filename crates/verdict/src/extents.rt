@@ -1,6 +1,6 @@
 // Cells, ticks and room of a job's array.
-use crate::Extent;
-use job::Job;
+use crate::judge::Extent;
+use job::record::Job;
 ghost use mathlib.Core.Path.{_≡_};
 ghost use Rattle.job.specs.Limits.{Acceptable};
 ghost use Rattle.verdict.specs.Mapping.{delays};

@@ -1,7 +1,7 @@
 // The verdict in the document's numbers.
-use crate::Extent;
-use crate::Pair;
-use crate::Verdict;
+use crate::judge::Extent;
+use crate::judge::Pair;
+use crate::judge::Verdict;
 ghost use mathlib.Core.Path.{_≡_};
 ghost use Rattle.verdict.specs.Verdicts.{inNumbers};
 
@@ -22,8 +22,8 @@ pub fn in_numbers(v: Verdict) -> InNumbers
         number: 0,
         stream: 0,
         pair: Pair {
-            p: space::ZERO,
-            q: space::ZERO,
+            p: space::vector::ZERO,
+            q: space::vector::ZERO,
         },
         hops: 0,
         extent: Extent {

@@ -1,7 +1,7 @@
 // The room count.
-use crate::Verdict;
-use job::Counted;
-use job::Job;
+use crate::judge::Verdict;
+use job::numbers::Counted;
+use job::record::Job;
 ghost use mathlib.Core.Path.{_≡_};
 ghost use Rattle.verdict.specs.Verdicts.{Says};
 ghost use Rattle.verdict.specs.Rooms.{Counts, roomOf, countedOf};
@@ -16,7 +16,7 @@ pub enum Room {
 pub fn room_of(j: Job) -> Room
     ensures { λ r. ⌜ Counts (Says j) r ⌝ }
 {
-    room_in(crate::verdict_of(j))
+    room_in(crate::judge::verdict_of(j))
 }
 
 // The room count in a verdict.

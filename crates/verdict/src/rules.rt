@@ -1,9 +1,9 @@
 // The rules, each over all streams or all pairs.
-use crate::Collision;
-use crate::Pair;
+use crate::judge::Collision;
+use crate::judge::Pair;
 use crate::walk::FoundGap;
 use crate::walk::FoundLink;
-use job::Job;
+use job::record::Job;
 ghost use Prim.Native.Nat.{_<_};
 ghost use Rattle.space.specs.Numbers.{Tells};
 ghost use Rattle.job.specs.Limits.{Acceptable};
@@ -70,7 +70,7 @@ pub fn shared_cell(j: Job) -> FoundPair
         return FoundPair::Nowhere;
     };
     let p = space::boxes::least_start(j.bounds, y);
-    let q = space::plus(p, y);
+    let q = space::vector::plus(p, y);
     FoundPair::At(Pair { p, q })
 }
 
@@ -96,10 +96,10 @@ fn is_ahead(j: Job, s: u8) -> bool
     requires { ⌜ Acceptable j × (s < j .m) ⌝ }
     ensures { λ r. ⌜ Tells (Ahead j s) r ⌝ }
 {
-    let t = job::stream_at(j, s);
+    let t = job::record::stream_at(j, s);
     let d = t.d;
     let h = j.time;
-    1 <= space::dot(h, d)
+    1 <= space::vector::dot(h, d)
 }
 
 // Does g divide Hd, where Sd is not 0?
@@ -111,10 +111,10 @@ fn is_even(j: Job, s: u8) -> bool
     if course.g == 0 {
         return true;
     }
-    let t = job::stream_at(j, s);
+    let t = job::record::stream_at(j, s);
     let d = t.d;
     let h = j.time;
-    space::divisor::size(space::dot(h, d)) % course.g == 0
+    space::divisor::size(space::vector::dot(h, d)) % course.g == 0
 }
 
 // The first pair of stream s whose tokens meet.
@@ -132,7 +132,7 @@ fn collision_on(j: Job, s: u8) -> FoundCollision
     };
     let y = found.gap;
     let p = space::boxes::least_start(j.bounds, y);
-    let q = space::plus(p, y);
+    let q = space::vector::plus(p, y);
     FoundCollision::At(Collision {
         stream: s,
         pair: Pair { p, q },

@@ -1,10 +1,10 @@
 // The walk over the differences of the box: which of them bring two points into one cell, or two tokens together.
 use crate::course::Course;
-use job::Job;
-use job::Stream;
-use space::Vector;
+use job::record::Job;
+use job::record::Stream;
 use space::boxes::Bounds;
 use space::multiple::Multiple;
+use space::vector::Vector;
 ghost use mathlib.Core.Path.{_≡_};
 ghost use Prim.Native.Nat.{_+_, _<_};
 ghost use Rattle.space.specs.Numbers.{Tells, difference, limit};
@@ -95,7 +95,7 @@ fn first_place(b: Bounds) -> u64
     requires { ⌜ Sized difference (entries (b .low)) × Sized difference (entries (b .high)) × In (boxOf b) (entries zeroVector) ⌝ }
     ensures { λ r. ⌜ r ≡ placeOf (boxOf b) (entries zeroVector) + 1 ⌝ }
 {
-    space::boxes::place(b, space::ZERO) + 1
+    space::boxes::place(b, space::vector::ZERO) + 1
 }
 
 // That difference itself, where there is one.
@@ -103,7 +103,7 @@ fn first_gap(b: Bounds) -> Vector
     requires { ⌜ Sized difference (entries (b .low)) × Sized difference (entries (b .high)) × In (boxOf b) (entries zeroVector) ⌝ }
     ensures { λ r. ⌜ PointAt (boxOf b) (placeOf (boxOf b) (entries zeroVector) + 1) (entries r) ⌝ }
 {
-    space::boxes::next(b, space::ZERO)
+    space::boxes::next(b, space::vector::ZERO)
 }
 
 // The first difference at which two points of the box share cell and tick.
@@ -130,7 +130,7 @@ pub fn link_gap(j: Job, s: u8, c: Course) -> FoundLink
     requires { ⌜ Acceptable j × (s < j .m) × (Stationary j s → ⊥) × CourseOf j s c ⌝ }
     ensures { λ r. ⌜ FindsLink j s r ⌝ }
 {
-    let t = job::stream_at(j, s);
+    let t = job::record::stream_at(j, s);
     let b = space::boxes::differences(j.bounds);
     let n = space::boxes::count(b);
     let mut i = first_place(b);

@@ -3,7 +3,7 @@ use mathlib.Core.Path.{_≡_}
 use mathlib.Core.List.{List}
 use Prim.Native.Nat.{ℕ, _≤_, _<_}
 use lib.ListN.{length}
-use Rattle.job.specs.declared.Job.{Job}
+use Rattle.job.specs.declared.record.Job.{Job}
 use Rattle.job.specs.Refusals.{First}
 use Rattle.job.specs.Limits.{limits, Acceptable}
 use Rattle.layout.specs.Layout.{totalOf, fileOf}

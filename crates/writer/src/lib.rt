@@ -1,5 +1,5 @@
 // The writer: a record and a lent buffer to the total, or the number of refusal, 3, 6, 7, 8 or 17.
-use job::Job;
+use job::record::Job;
 ghost use Rattle.writer.specs.Writing.{Writes, Answers};
 
 // What writing answers: the total, a refusal by a limit, or 17 with the total that the buffer is shorter than.

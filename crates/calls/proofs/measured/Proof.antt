@@ -3,7 +3,7 @@ use mathlib.Core.Path.{ap₂}
 use Prim.Native.Nat.{ℕ}
 use borrow.Author.Needs.{needs}
 use Rattle.job.proofs.Accepting.{walkable}
-use Rattle.job.specs.declared.Job.{Job}
+use Rattle.job.specs.declared.record.Job.{Job}
 use Rattle.verdict.specs.declared.numbers.InNumbers.{InNumbers}
 use Rattle.calls.specs.declared.Measures.{Measures}
 use Rattle.calls.proofs.measured.Statement.{statement}

@@ -2,7 +2,7 @@
 use mathlib.Core.Path.{sym, ap, _∙_}
 use Prim.Native.Nat.{ℕ}
 use borrow.Author.Needs.{needs}
-use Rattle.job.specs.declared.Counted.{Counted}
+use Rattle.job.specs.declared.numbers.Counted.{Counted}
 use Rattle.verdict.specs.declared.numbers.InNumbers.{InNumbers}
 use Rattle.checks.specs.Answers.{countedOf}
 use Rattle.checks.proofs.counted.Statement.{statement}

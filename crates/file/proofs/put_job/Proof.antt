@@ -3,7 +3,7 @@ use mathlib.Core.List.{List, _++_}
 use Prim.Native.Nat.{ℕ}
 use borrow.Author.Needs.{needs}
 use denote.Ref.{now}
-use Rattle.job.specs.declared.Job.{Job}
+use Rattle.job.specs.declared.record.Job.{Job}
 use Rattle.layout.specs.Layout.{headerOf, boxBytes, streamsBytes, matrixBytes, fileOf}
 use Rattle.buffer.specs.Put.{Fits, Put}
 use Rattle.buffer.proofs.Putting.{and-then, first, left}

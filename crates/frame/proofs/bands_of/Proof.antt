@@ -2,7 +2,7 @@
 use Prim.Native.Nat.{ℕ, zero, suc, _<_, _≤_}
 use native.Mathlib.Omega.{arith}
 use borrow.Author.Needs.{needs}
-use Rattle.job.specs.declared.Job.{Job}
+use Rattle.job.specs.declared.record.Job.{Job}
 use Rattle.tables.proofs.TableLaws.{few-streams}
 use Rattle.frame.specs.declared.Bands.{Bands}
 use Rattle.frame.specs.Framing.{Banded, AllBanded}

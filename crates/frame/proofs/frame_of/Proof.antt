@@ -10,7 +10,7 @@ use Rattle.space.specs.Vectors.{entries, Sized}
 use Rattle.space.specs.Boxes.{Solid, boxOf, side}
 use Rattle.space.proofs.Machine.{fits-under, held-as}
 use Rattle.space.proofs.VectorLaws.{sized-up, two}
-use Rattle.job.specs.declared.Job.{Job}
+use Rattle.job.specs.declared.record.Job.{Job}
 use Rattle.job.specs.Limits.{Acceptable}
 use Rattle.job.proofs.Accepting.{solid, time-sized, row0-sized, row1-sized, low-sized, high-sized, walkable}
 use Rattle.verdict.specs.Extents.{cells}

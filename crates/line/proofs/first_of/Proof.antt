@@ -2,7 +2,7 @@
 use mathlib.Core.Path.{ap, sym, _∙_}
 use lib.IntN.{pos}
 use borrow.Author.Needs.{needs}
-use Rattle.verdict.specs.declared.Verdict.{Verdict}
+use Rattle.verdict.specs.declared.judge.Verdict.{Verdict}
 use Rattle.verdict.specs.declared.numbers.InNumbers.{InNumbers}
 use Rattle.line.specs.Fields.{Field, lead}
 use Rattle.line.proofs.Leading.{not-accepted}

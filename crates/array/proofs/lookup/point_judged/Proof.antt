@@ -4,10 +4,10 @@ use mathlib.Core.Option.{Option, some}
 use Prim.Native.Nat.{ℕ}
 use borrow.Author.Needs.{needs}
 use Rattle.space.specs.Boxes.{foundOf}
-use Rattle.job.specs.declared.Job.{Job}
+use Rattle.job.specs.declared.record.Job.{Job}
 use Rattle.job.proofs.Accepting.{walkable}
 use Rattle.verdict.specs.Verdicts.{Says}
-use Rattle.verdict.specs.declared.Verdict.the-variants.{Accepted}
+use Rattle.verdict.specs.declared.judge.Verdict.the-variants.{Accepted}
 use Rattle.verdict.proofs.Accepted.{not-accepted, accepted-limits}
 use Rattle.frame.proofs.FrameLaws.{accepted-runs}
 use Rattle.array.specs.Ticks.{works, pointAt}

@@ -2,7 +2,7 @@
 use mathlib.Core.Path.{_≡_, ap}
 use Prim.Native.Nat.{ℕ}
 use borrow.Author.Needs.{needs}
-use Rattle.verdict.specs.declared.Verdict.{Verdict}
+use Rattle.verdict.specs.declared.judge.Verdict.{Verdict}
 use Rattle.buffer.proofs.Putting.{none, put-as, fits-as}
 use Rattle.line.specs.Fields.{fieldsBytes, besides}
 use Rattle.line.proofs.said.put_fields.Statement.{statement}

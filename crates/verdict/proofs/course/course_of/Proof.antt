@@ -7,8 +7,8 @@ use Rattle.space.specs.Numbers.{limit, difference}
 use Rattle.space.specs.Vectors.{entries, dotOf, Sized}
 use Rattle.space.proofs.Machine.{Is, known, fit, read, quot, div-need}
 use Rattle.space.proofs.VectorLaws.{four, unfour}
-use Rattle.job.specs.declared.Job.{Job}
-use Rattle.job.specs.declared.Stream.{Stream}
+use Rattle.job.specs.declared.record.Job.{Job}
+use Rattle.job.specs.declared.record.Stream.{Stream}
 use Rattle.job.specs.Record.{along}
 use Rattle.verdict.specs.Mapping.{H, g, orOne, hops}
 use Rattle.verdict.specs.Courses.{timeAndPlace}

@@ -11,7 +11,7 @@ use Rattle.space.specs.Vectors.{entries, Sized}
 use Rattle.space.specs.Boxes.{Solid, boxOf}
 use Rattle.space.proofs.Machine.{fits-under}
 use Rattle.space.proofs.VectorLaws.{sized-up}
-use Rattle.job.specs.declared.Job.{Job}
+use Rattle.job.specs.declared.record.Job.{Job}
 use Rattle.job.specs.Limits.{Acceptable, rowLimit}
 use Rattle.job.proofs.Accepting.{time-sized, row0-sized, row1-sized, low-sized, high-sized, solid}
 use Rattle.verdict.proofs.SizeLaws.{across-small, cells-are, delays-size, reachLimit, delayLimit}

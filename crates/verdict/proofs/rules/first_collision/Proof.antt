@@ -4,10 +4,10 @@ use native.Mathlib.Omega.{arith}
 use borrow.Author.Count.{below-more}
 use borrow.Author.Needs.{needs}
 use Rattle.space.specs.Vectors.{entries}
-use Rattle.job.specs.declared.Job.{Job}
+use Rattle.job.specs.declared.record.Job.{Job}
 use Rattle.verdict.specs.Rules.{Clear}
 use Rattle.verdict.specs.Searches.{FindsCollisionOn, FindsCollision}
-use Rattle.verdict.specs.declared.Collision.{Collision}
+use Rattle.verdict.specs.declared.judge.Collision.{Collision}
 use Rattle.verdict.specs.declared.rules.FoundCollision.the-variants as FoundCollision
 use Rattle.verdict.proofs.rules.first_collision.Statement.{statement}
 use Rattle.verdict.proofs.rules.first_collision.Tie as tie

@@ -9,7 +9,7 @@ use borrow.Author.Needs.{needs}
 use Rattle.space.specs.Numbers.{Tells}
 use Rattle.space.proofs.Machine.{in-range, size-read, never}
 use Rattle.space.proofs.Telling.{tells-as, tells-eq}
-use Rattle.job.specs.declared.Job.{Job}
+use Rattle.job.specs.declared.record.Job.{Job}
 use Rattle.job.specs.Record.{along}
 use Rattle.verdict.specs.Mapping.{H, g}
 use Rattle.verdict.proofs.Courses.{none-stationary, stationary-none}

@@ -11,7 +11,7 @@ use Rattle.space.specs.declared.multiple.Multiple.{Multiple}
 use Rattle.space.proofs.Machine.{held, back, in-range}
 use Rattle.space.proofs.VectorLaws.{sized-up}
 use Rattle.space.proofs.OrderLaws.{forward-nonzero}
-use Rattle.job.specs.declared.Stream.{Stream}
+use Rattle.job.specs.declared.record.Stream.{Stream}
 use Rattle.verdict.specs.Courses.{timeAndPlace}
 use Rattle.job.proofs.Accepting.{stream-sound, along-sized}
 use Rattle.verdict.proofs.Fits.{placed-sized}
