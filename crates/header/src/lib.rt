@@ -9,11 +9,10 @@ ghost use Rattle.header.specs.Header.{at, pairAt, Counted, Placed, headC
 pub fn number(s: &[u8]) -> u8
     ensures { λ r. ⌜ First (headChecks (now (s .entry))) r ⌝ }
 {
-    let form = pair(s, 0);
     if s.len() < 16 {
         return 1;
     }
-    if form != 1 {
+    if pair(s, 0) != 1 {
         return 2;
     }
     if !is_counted(s) {
@@ -64,12 +63,5 @@ fn pair(s: &[u8], i: usize) -> usize
 pub fn byte(s: &[u8], i: usize) -> usize
     ensures { λ r. ⌜ (r ≡ at (now (s .entry)) i) × (r < 256) ⌝ }
 {
-    if i < s.len() { wide(s[i]) } else { 0 }
-}
-
-// A byte as a wider number.
-fn wide(x: u8) -> usize
-    ensures { λ r. ⌜ (r ≡ x) × (r < 256) ⌝ }
-{
-    x as usize
+    if i < s.len() { layout::wide(s[i]) } else { 0 }
 }

@@ -42,8 +42,9 @@ pub fn total_of(n: usize, k: usize, m: usize) -> usize
     matrices_from(n, m) + (1 + k) * n
 }
 
-fn wide(x: u8) -> usize
-    ensures { λ r. ⌜ r ≡ x ⌝ }
+// A byte as a length.
+pub fn wide(x: u8) -> usize
+    ensures { λ r. ⌜ (r ≡ x) × (r < 256) ⌝ }
 {
     x as usize
 }

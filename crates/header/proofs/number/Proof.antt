@@ -13,11 +13,11 @@ use Rattle.header.proofs.number.Statement.{statement}
 use Rattle.header.proofs.number.Tie as tie
 
 -- past the first check, the first two, three, four, the number is that of the later ones
-past1 : (c : tie.Else1) (r : ℕ) → First (later 1 (headChecks (now (c .before .before .before .args .s)))) r → First (headChecks (now (c .before .before .before .args .s))) r
+past1 : (c : tie.Else1) (r : ℕ) → First (later 1 (headChecks (now (c .before .before .args .s)))) r → First (headChecks (now (c .before .before .args .s))) r
 past1 c r f = inl (omega arith, f)
 
 past2 : (c : tie.Else2) (r : ℕ) → First (later 2 (headChecks (now (c .before .before .before .before .args .s)))) r → First (headChecks (now (c .before .before .before .before .args .s))) r
-past2 c r f = past1 (c .before) r (inl (omega (arith, c .before .before .pair .ensures), f))
+past2 c r f = past1 (c .before .before) r (inl (omega (arith, c .before .pair .ensures), f))
 
 -- where the function starts
 abbrev start : tie.Else3 → tie.Start
@@ -32,14 +32,14 @@ past3 c r f = past2 (c .before .before) r (inl (counted c, f))
 past4 : (c : tie.Else4) (r : ℕ) → First (later 4 (headChecks (now (start (c .before .before) .args .s)))) r → First (headChecks (now (start (c .before .before) .args .s))) r
 past4 c r f = past3 (c .before .before) r (inl (granted _ (c .before .is-placed .ensures) (c .if4 .left), f))
 
-pair-requires : tie.Need-pair-requires
-pair-requires c κs = search needs
-
 returns : tie.Need-returns
 returns c = inr ((λ h. omega arith), refl)
 
+pair-requires : tie.Need-pair-requires
+pair-requires c κs = search needs
+
 returns-2 : tie.Need-returns-2
-returns-2 c = past1 (c .before) 2 (inr ((λ h. c .if2 .taken (c .before .before .pair .ensures ∙ h)), refl))
+returns-2 c = past1 (c .before .before) 2 (inr ((λ h. c .if2 .taken (c .before .pair .ensures ∙ h)), refl))
 
 is-counted-requires : tie.Need-is-counted-requires
 is-counted-requires c κs = search needs
@@ -63,4 +63,4 @@ returns-6 : tie.Need-returns-6
 returns-6 c = past4 (c .before .before) 0 (inl (omega (arith, c .before .pair2 .ensures), refl))
 
 pub number-spec : {M : Type 1} → statement M
-number-spec = tie.close (tie.spec pair-requires returns returns-2 is-counted-requires returns-3 is-placed-requires returns-4 pair-requires-2 returns-5 returns-6)
+number-spec = tie.close (tie.spec returns pair-requires returns-2 is-counted-requires returns-3 is-placed-requires returns-4 pair-requires-2 returns-5 returns-6)
