@@ -1,3 +1,4 @@
+-- Each slice lies in its array: what is read in the input, and the line, as its contract says, in the buffer.
 use mathlib.Core.Path.{sym}
 use lib.Seq.{length-take-le}
 use borrow.Author.Needs.{needs}

@@ -1,3 +1,4 @@
+-- Case by case, the numbers of the reply.
 use mathlib.Core.Path.{_≡_, sym, ap}
 use borrow.Author.Needs.{needs}
 use Rattle.writer.specs.Writing.{Answers, numberOf, totalIn}
