@@ -14,11 +14,11 @@ use Rattle.verdict.specs.declared.judge.Verdict.the-variants.{Accepted}
 use Rattle.tables.specs.Tables.{Long}
 use Rattle.frame.specs.declared.Frame.{Frame}
 use Rattle.frame.specs.Framing.{Framed}
-use Rattle.checks.specs.Answers.{checksOf, Lacks}
+use Rattle.checks.specs.Replies.{checksOf, Lacks}
 use Rattle.checks.specs.declared.RunReply.the-variants.{Ticks}
 use Rattle.checks.specs.declared.Work.{Work}
 use Rattle.checks.specs.declared.Work.the-variants.{Run, Tick}
-use Rattle.checks.proofs.AnswerLaws.{passed}
+use Rattle.checks.proofs.ReplyLaws.{passed}
 use Rattle.array.specs.Ticks.{Ticked}
 use Rattle.array.specs.Runs.{Ran, cleared, Worked, Does}
 use Rattle.array.specs.Steps.{Tabled, Roomy}

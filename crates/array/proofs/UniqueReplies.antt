@@ -10,12 +10,12 @@ use Rattle.verdict.specs.Extents.{ticks, room}
 use Rattle.verdict.specs.declared.judge.Extent.{Extent}
 use Rattle.verdict.specs.declared.judge.Verdict.the-variants.{Accepted}
 use Rattle.frame.proofs.FrameLaws.{accepted-runs}
-use Rattle.checks.specs.Answers.{checksOf}
+use Rattle.checks.specs.Replies.{checksOf}
 use Rattle.checks.specs.declared.RunReply.{RunReply}
 use Rattle.checks.specs.declared.Work.{Work}
 use Rattle.checks.specs.declared.Work.the-variants.{Run, Tick}
-use Rattle.checks.proofs.AnswerLaws.{passed}
-use Rattle.checks.proofs.UniqueAnswers.{replies-unique}
+use Rattle.checks.proofs.ReplyLaws.{passed}
+use Rattle.checks.proofs.Unique.{replies-unique}
 use Rattle.array.specs.Runs.{cleared, Worked, Does, Runs, SingleTick}
 use Rattle.array.proofs.UniqueTicks.{ticked-unique, ran-unique}
 

@@ -1,4 +1,4 @@
--- The look-up of the point worked in a tick at a cell: the same that the tick works.
+-- The look-up of the point worked in a tick at a cell: the same that the tick works. (REFERENCE 4.12)
 use mathlib.Core.Path.{_≡_}
 use mathlib.Core.Option.{none, some}
 use Prim.Native.Nat.{ℕ}

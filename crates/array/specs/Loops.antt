@@ -1,4 +1,4 @@
--- 'The loop takes points in box order, the incoming value being the stream's value at i - d, or the input; it answers the point count.'
+-- 'The loop takes points in box order, the incoming value being the stream's value at i - d, or the input; it answers the point count.' (REFERENCE 4.10)
 use mathlib.Core.Path.{_≡_}
 use mathlib.Core.List.{List}
 use Prim.Native.Nat.{ℕ, _*_, _<_}

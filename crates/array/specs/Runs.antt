@@ -1,4 +1,4 @@
--- What a run and a single tick leave: all ticks or one done, or 'nothing lent is altered' by a refusal.
+-- What a run and a single tick leave: all ticks or one done, or 'nothing lent is altered' by a refusal. (REFERENCE 4.8, 4.9, 5.3)
 use mathlib.Core.Path.{_≡_}
 use mathlib.Core.List.{List, _++_}
 use Prim.Native.Nat.{ℕ, zero, suc}
@@ -6,7 +6,7 @@ use lib.ListN.{length, drop, replicate}
 use Rattle.job.specs.declared.record.Job.{Job}
 use Rattle.verdict.specs.Extents.{ticks, room}
 use Rattle.array.specs.Ticks.{Ticked}
-use Rattle.checks.specs.Answers.{checksOf, Replies}
+use Rattle.checks.specs.Replies.{checksOf, Replies}
 use Rattle.checks.specs.declared.Work.{Work}
 use Rattle.checks.specs.declared.Work.the-variants.{Run, Tick}
 use Rattle.checks.specs.declared.RunReply.{RunReply}

@@ -1,4 +1,4 @@
--- 'One tick t, for stream s with delay w': arrivals, incoming values, new values, and what the places and the value table then hold.
+-- 'One tick t, for stream s with delay w': arrivals, incoming values, new values, and what the places and the value table then hold. (REFERENCE 4.5 to 4.7)
 use mathlib.Core.Path.{_≡_}
 use mathlib.Core.Bool.{Bool, cond, _&&_}
 use mathlib.Core.List.{List}
@@ -43,7 +43,7 @@ fresh j input t places s x k = work j s (λ (u : ℕ). incoming j input t places
 unfoldable pub stored : Job → List ℕ → ℕ → List ℕ → ℕ → ℕ → ℕ
 stored j input t places s x = given (pointAt j t x) (arrival j t places s x) (λ (k : ℕ). fresh j input t places s x k)
 
--- a tick: 'It alters only the values of points worked in that tick and the one place per stream and cell that it stores to'
+-- a tick: 'It alters only the values of points worked in that tick and the one place per stream and cell that it stores to'. Both tables after it are told by the places before it: 'All arrivals of a tick are read before any place is written'; and by `beyond` 'A run alters no place past the first R'
 pub record Ticked (j : Job) (input : List ℕ) (t : ℕ) (places values places′ values′ : List ℕ) : Type 0 where
   pub length-places : length places′ ≡ length places
   pub length-values : length values′ ≡ length values

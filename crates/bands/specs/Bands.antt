@@ -1,4 +1,4 @@
--- 'Room layout: stream by stream, cell by cell, w places each': the band of one stream, and what arrives at its cells.
+-- 'Room layout: stream by stream, cell by cell, w places each': the band of one stream, and what arrives at its cells. (REFERENCE 4.3, 4.5)
 use mathlib.Core.Path.{_≡_}
 use mathlib.Core.List.{List, [], _∷_}
 use Prim.Native.Nat.{ℕ, _+_, _*_, _<_}

@@ -1,4 +1,4 @@
--- What is said of job bytes: of the number that refuses them, 1 to 8, or of the job that they are. Each function on bytes is stated by what its like is stated by on a record.
+-- What is said of job bytes: of the number that refuses them, 1 to 8, or of the job that they are. Each function on bytes is stated by what its like is stated by on a record. (REFERENCE 5.2)
 use mathlib.Core.Path.{_≡_}
 use mathlib.Core.Logic.{_⊎_}
 use mathlib.Core.List.{List, []}

@@ -1,4 +1,4 @@
--- 'Rules, over the m arrivals at a point, modulo 2^32.'
+-- 'Rules, over the m arrivals at a point, modulo 2^32.' (REFERENCE 1.4)
 use Prim.Native.Nat.{ℕ, zero, suc, _+_, _*_, _%_, _^_, min}
 use Rattle.job.specs.declared.record.Job.{Job}
 use Rattle.job.specs.Record.{stream}

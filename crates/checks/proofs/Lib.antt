@@ -1,2 +1,2 @@
-pub mod AnswerLaws
-pub mod UniqueAnswers
+pub mod ReplyLaws
+pub mod Unique

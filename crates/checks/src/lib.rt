@@ -7,7 +7,7 @@ ghost use mathlib.Core.Path.{_≡_};
 ghost use mathlib.Core.Bool.{true, false};
 ghost use Rattle.job.specs.Limits.{Acceptable};
 ghost use Rattle.job.specs.Refusals.{First};
-ghost use Rattle.checks.specs.Answers.{tickChecks, checksOf, countedOf, Lacks};
+ghost use Rattle.checks.specs.Replies.{tickChecks, checksOf, countedOf, Lacks};
 
 // 14: 'R over 8,192'.
 const ROOM_LIMIT: u64 = 8192;

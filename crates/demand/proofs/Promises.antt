@@ -21,7 +21,7 @@ use Rattle.array.specs.declared.loops.LoopReply.{LoopReply}
 use Rattle.array.specs.declared.loops.LoopReply.the-variants.{Points, Refused}
 use Rattle.verdict.proofs.Accepted.{accepted-limits}
 use Rattle.checks.specs.declared.Work.the-variants.{Run}
-use Rattle.checks.proofs.AnswerLaws.{passed, answered}
+use Rattle.checks.proofs.ReplyLaws.{passed, answered}
 use Rattle.array.specs.Runs.{Runs}
 use Rattle.checks.specs.declared.RunReply.{RunReply}
 use Rattle.checks.specs.declared.RunReply.the-variants as Array

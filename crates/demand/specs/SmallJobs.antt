@@ -1,4 +1,4 @@
--- 'Small jobs with their replies': those that are marked *, one table and what is claimed of each line. Most lines are a verdict, one is of bytes, and the last two end in the values of a run.
+-- 'Small jobs with their replies': those that are marked *, one table and what is claimed of each line. Most lines are a verdict, one is of bytes, and the last two end in the values of a run. (REFERENCE 2.3, 3, 4)
 use mathlib.Core.Path.{_≡_}
 use mathlib.Core.List.{List, [], _∷_}
 use Prim.Native.Nat.{ℕ, _*_}

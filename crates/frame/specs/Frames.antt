@@ -1,4 +1,4 @@
--- Where a point is worked, and what a place holds: 'a box point i has Si = x and Hi = least H + t'; 'Room layout: stream by stream, cell by cell, w places each'.
+-- Where a point is worked, and what a place holds: 'a box point i has Si = x and Hi = least H + t'; 'Room layout: stream by stream, cell by cell, w places each'. (REFERENCE 4.1 to 4.3, 4.6)
 use mathlib.Core.List.{List}
 use Prim.Native.Nat.{ℕ, _+_, _*_}
 use lib.ListN.{getD}

@@ -1,4 +1,4 @@
--- The header of a job file: refusals 1 to 5.
+-- The header of a job file: refusals 1 to 5. (REFERENCE 2.1)
 use mathlib.Core.Path.{_≡_}
 use mathlib.Core.List.{List}
 use Prim.Native.Nat.{ℕ, _+_, _*_, _≤_}

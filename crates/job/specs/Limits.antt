@@ -1,4 +1,4 @@
--- 'Job': what a record must keep, in the order in which it is asked (refusals 3, 6, 7, 8).
+-- 'Job': what a record must keep, in the order in which it is asked (refusals 3, 6, 7, 8). (REFERENCE 1, 5.1)
 use mathlib.Core.Path.{_≡_}
 use mathlib.Core.Logic.{_⊎_}
 use Prim.Native.Nat.{ℕ, _+_, _<_, _≤_}

@@ -1,4 +1,4 @@
--- 'A job held as a record': its box and points, its streams and rows as lists.
+-- 'A job held as a record': its box and points, its streams and rows as lists. (REFERENCE 1.6)
 use mathlib.Core.List.{List, [], _∷_}
 use Prim.Native.Nat.{ℕ, suc, _<_, _≤_}
 use lib.ListN.{getD}

@@ -1,4 +1,4 @@
--- 'Numbers of refusal. Checked in this order': a list of conditions, each with the number that is given where it is the first that does not hold.
+-- 'Numbers of refusal. Checked in this order': a list of conditions, each with the number that is given where it is the first that does not hold. (REFERENCE 5.1)
 use mathlib.Core.Path.{_≡_}
 use mathlib.Core.Logic.{_⊎_}
 use Prim.Native.Nat.{ℕ}

@@ -1,4 +1,4 @@
-// The job as a record, and whether a record has its shape.
+// The job as a record: its streams and rows by number.
 use space::boxes::Bounds;
 use space::vector::Vector;
 ghost use mathlib.Core.Path.{_≡_};

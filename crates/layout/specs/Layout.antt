@@ -1,4 +1,4 @@
--- 'Job file': the bytes of a job, once, for entries of e bytes each (1 in form 1). The reader and the writer are both stated by `fileOf`.
+-- 'Job file': the bytes of a job, once, for entries of e bytes each (1 in form 1). The reader and the writer are both stated by `fileOf`. (REFERENCE 2)
 use mathlib.Core.Path.{_≡_}
 use mathlib.Core.List.{List, [], _∷_, _++_}
 use Prim.Native.Nat.{ℕ, zero, suc, _+_, _*_, _-_, _/_, _%_, _^_}

@@ -1,4 +1,4 @@
--- The words and numbers of each verdict's printed line.
+-- The words and numbers of each verdict's printed line. (REFERENCE 6)
 use mathlib.Core.List.{List, [], _∷_, _++_}
 use Prim.Native.Nat.{ℕ}
 use lib.IntN.{ℤ, pos}

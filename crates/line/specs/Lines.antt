@@ -1,4 +1,4 @@
--- The printed line of each verdict.
+-- The printed line of each verdict. (REFERENCE 6)
 use mathlib.Core.Path.{_≡_}
 use mathlib.Core.List.{List, _++_}
 use Prim.Native.Nat.{ℕ, _≤_, _<_}

@@ -6,7 +6,7 @@ use Rattle.verdict.specs.Verdicts.{inNumbers}
 use Rattle.verdict.specs.Rooms.{countedOf as roomCounted}
 use Rattle.verdict.specs.declared.judge.Verdict.{Verdict}
 use Rattle.verdict.specs.declared.room.Room.{Room}
-use Rattle.checks.specs.Answers.{countedOf as runCounted}
+use Rattle.checks.specs.Replies.{countedOf as runCounted}
 use Rattle.checks.specs.declared.RunReply.{RunReply}
 use Rattle.array.specs.Loops.{countedOf as loopCounted}
 use Rattle.array.specs.declared.loops.LoopReply.{LoopReply}

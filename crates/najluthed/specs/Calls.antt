@@ -1,4 +1,4 @@
--- What the C library answers in numbers: those of the replies on bytes, in C's types. 'gets number, stream and f; the number is 0 for accepted, and stream and f are 0 where the table lists none'.
+-- What the C library answers in numbers: those of the replies on bytes, in C's types. 'gets number, stream and f; the number is 0 for accepted, and stream and f are 0 where the table lists none'. (REFERENCE 7.2)
 use mathlib.Core.Path.{_≡_}
 use mathlib.Core.List.{List}
 use Prim.Native.Nat.{ℕ}
@@ -8,7 +8,7 @@ use Rattle.verdict.specs.Rooms.{countedOf as roomCounted}
 use Rattle.verdict.specs.declared.judge.Verdict.{Verdict}
 use Rattle.verdict.specs.declared.numbers.InNumbers.{InNumbers}
 use Rattle.verdict.specs.declared.room.Room.{Room}
-use Rattle.checks.specs.Answers.{countedOf as runCounted}
+use Rattle.checks.specs.Replies.{countedOf as runCounted}
 use Rattle.checks.specs.declared.RunReply.{RunReply}
 use Rattle.array.specs.Loops.{countedOf as loopCounted}
 use Rattle.array.specs.declared.loops.LoopReply.{LoopReply}

@@ -1,4 +1,4 @@
--- Numbers as they are printed, in ASCII.
+-- Numbers as they are printed, in ASCII. (REFERENCE 6)
 use mathlib.Core.Bool.{Bool, true, false}
 use mathlib.Core.List.{List, [], _∷_, _++_}
 use Prim.Native.Nat.{ℕ, zero, suc, _+_, _/_, _%_}

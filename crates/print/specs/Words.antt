@@ -1,4 +1,4 @@
--- The words of the line, in ASCII, each with the blanks about it.
+-- The words of the line, in ASCII, each with the blanks about it. (REFERENCE 6)
 use mathlib.Core.List.{List, [], _∷_}
 use Prim.Native.Nat.{ℕ}
 use Rattle.print.specs.declared.words.Word.{Word}

@@ -1,4 +1,4 @@
--- Reading a job file: refusals 1 to 8 in order, and the job that the bytes are.
+-- Reading a job file: refusals 1 to 8 in order, and the job that the bytes are. (REFERENCE 2.4, 5.2)
 use mathlib.Core.Path.{_≡_}
 use mathlib.Core.List.{List}
 use Prim.Native.Nat.{ℕ}

@@ -1,4 +1,4 @@
--- 'Box: bounds l ≤ u for each' dimension, of any number of them; its points and their places in box order.
+-- 'Box: bounds l ≤ u for each' dimension, of any number of them; its points and their places in box order. (REFERENCE 1.2, 4.1)
 use mathlib.Core.Path.{_≡_}
 use mathlib.Core.Bool.{Bool, true, false, cond, _&&_}
 use mathlib.Core.List.{List, [], _∷_}

@@ -1,4 +1,4 @@
--- 'a whole multiple of d': which one y is, negative and zero included, or that it is none.
+-- 'a whole multiple of d': which one y is, negative and zero included, or that it is none. (REFERENCE 3.6)
 use mathlib.Core.Path.{_≡_}
 use mathlib.Core.List.{List}
 use lib.IntN.{ℤ}

@@ -1,4 +1,4 @@
-// Signed vectors of up to four entries: arithmetic and box order. The layers above rest on what is stated here and on nothing more.
+// Signed vectors of up to four entries: arithmetic and order.
 ghost use mathlib.Core.Path.{_≡_};
 ghost use Rattle.space.specs.Numbers.{Size, Tells, limit};
 ghost use Rattle.space.specs.Vectors.{entries, dotOf, plusOf, minusOf, timesOf, Sized};

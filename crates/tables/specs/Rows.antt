@@ -1,4 +1,4 @@
--- 'The row of one stream comes back as a part of the caller's own table, no copy; for a job refused by 1 to 8, a wrong table length or a stream number ≥ m it is the empty part at the front': what it holds
+-- 'The row of one stream comes back as a part of the caller's own table, no copy; for a job refused by 1 to 8, a wrong table length or a stream number ≥ m it is the empty part at the front': what it holds (REFERENCE 4.11)
 use mathlib.Core.Path.{_≡_}
 use mathlib.Core.Logic.{_⊎_}
 use mathlib.Core.List.{List, []}

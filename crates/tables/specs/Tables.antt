@@ -1,4 +1,4 @@
--- 'Tables hold stream by stream, points in box order, as u32.': how long they are, where an entry stands, and the point before one.
+-- 'Tables hold stream by stream, points in box order, as u32.': how long they are, where an entry stands, and the point before one. (REFERENCE 4.4)
 use mathlib.Core.Path.{_≡_}
 use mathlib.Core.List.{List}
 use mathlib.Core.Option.{Option}

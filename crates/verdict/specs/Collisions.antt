@@ -1,4 +1,4 @@
--- 'Meaning of the verdict', link: the points that send a token along a stream, and which two of them collide.
+-- 'Meaning of the verdict', link: the points that send a token along a stream, and which two of them collide. (REFERENCE 3.6)
 use mathlib.Core.Path.{_≡_}
 use mathlib.Core.List.{List}
 use Prim.Native.Nat.{ℕ, zero, suc, _<_, _≤_}

@@ -1,4 +1,4 @@
--- 'Cells are the whole rectangle from least to greatest Sx over the box, row-major. Ticks run from 0 to greatest Hx - least Hx; the count of ticks is one more. Room R = cells × sum of the w.'
+-- 'Cells are the whole rectangle from least to greatest Sx over the box, row-major. Ticks run from 0 to greatest Hx - least Hx; the count of ticks is one more. Room R = cells × sum of the w.' (REFERENCE 4.1 to 4.3)
 use mathlib.Core.Path.{_≡_}
 use mathlib.Core.List.{[], _∷_}
 use Prim.Native.Nat.{ℕ, _*_}

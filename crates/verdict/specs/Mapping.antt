@@ -1,4 +1,4 @@
--- 'Meaning of the verdict': the products of a job, and for a stream Sd, g, e and w.
+-- 'Meaning of the verdict': the products of a job, and for a stream Sd, g, e and w. (REFERENCE 3.1, 3.2)
 use mathlib.Core.Path.{_≡_}
 use mathlib.Core.List.{List, [], _∷_, map}
 use Prim.Native.Nat.{ℕ, zero, suc, _+_}

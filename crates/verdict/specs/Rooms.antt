@@ -1,4 +1,4 @@
--- The room count: 'Verdict and room count use 1 to 12'.
+-- The room count: 'Verdict and room count use 1 to 12'. (REFERENCE 4.3)
 use mathlib.Core.Path.{_≡_}
 use Rattle.job.specs.declared.numbers.Counted.{Counted}
 use Rattle.verdict.specs.Verdicts.{numberOf}

@@ -1,4 +1,4 @@
--- 'Meaning of the verdict': precedence, hop, cell and link.
+-- 'Meaning of the verdict': precedence, hop, cell and link. (REFERENCE 3.3 to 3.6)
 use mathlib.Core.Path.{_≡_}
 use mathlib.Core.List.{List}
 use Prim.Native.Nat.{ℕ, _<_, _∣_}

@@ -1,4 +1,4 @@
--- The verdict: which reply is right for a job, and the document's number and values of each.
+-- The verdict: which reply is right for a job, and the document's number and values of each. (REFERENCE 3.7, 5.1)
 use mathlib.Core.Path.{_≡_}
 use mathlib.Core.Logic.{_⊎_}
 use mathlib.Core.List.{List}

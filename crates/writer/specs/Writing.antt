@@ -1,4 +1,4 @@
--- Writing a job file: refusals 3, 6, 7, 8 and 17, and what the lent bytes then hold.
+-- Writing a job file: refusals 3, 6, 7, 8 and 17, and what the lent bytes then hold. (REFERENCE 2.4, 5.1)
 use mathlib.Core.Path.{_≡_}
 use mathlib.Core.List.{List}
 use Prim.Native.Nat.{ℕ, _≤_, _<_}

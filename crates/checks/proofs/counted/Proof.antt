@@ -4,7 +4,7 @@ use Prim.Native.Nat.{ℕ}
 use borrow.Author.Needs.{needs}
 use Rattle.job.specs.declared.numbers.Counted.{Counted}
 use Rattle.verdict.specs.declared.numbers.InNumbers.{InNumbers}
-use Rattle.checks.specs.Answers.{countedOf}
+use Rattle.checks.specs.Replies.{countedOf}
 use Rattle.checks.proofs.counted.Statement.{statement}
 use Rattle.checks.proofs.counted.Tie as tie
 

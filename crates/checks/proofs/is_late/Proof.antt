@@ -9,7 +9,7 @@ use borrow.Author.Needs.{needs}
 use Rattle.space.proofs.Machine.{never}
 use Rattle.space.proofs.Telling.{tells-le}
 use Rattle.job.specs.Refusals.{First}
-use Rattle.checks.specs.Answers.{tickChecks}
+use Rattle.checks.specs.Replies.{tickChecks}
 use Rattle.checks.specs.declared.Work.{Work}
 use Rattle.checks.specs.declared.Work.the-variants.{Tick}
 use Rattle.checks.proofs.is_late.Statement.{statement}

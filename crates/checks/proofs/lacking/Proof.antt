@@ -8,7 +8,7 @@ use Rattle.space.proofs.Telling.{denied, granted}
 use Rattle.job.specs.Refusals.{First}
 use Rattle.tables.specs.Tables.{Long}
 use Rattle.tables.proofs.TableLaws.{tells-long}
-use Rattle.checks.specs.Answers.{tickChecks, checksOf}
+use Rattle.checks.specs.Replies.{tickChecks, checksOf}
 use Rattle.checks.proofs.lacking.Statement.{statement}
 use Rattle.checks.proofs.lacking.Tie as tie
 

@@ -13,8 +13,8 @@ use Rattle.verdict.proofs.Accepted.{not-accepted, accepted-limits}
 use Rattle.tables.proofs.TableLaws.{few-points}
 use Rattle.frame.proofs.FrameLaws.{accepted-runs}
 use Rattle.checks.specs.declared.RunReply.the-variants.{Ticks}
-use Rattle.checks.specs.Answers.{checksOf, Lacks}
-use Rattle.checks.proofs.AnswerLaws.{passed, lacks-refuses}
+use Rattle.checks.specs.Replies.{checksOf, Lacks}
+use Rattle.checks.proofs.ReplyLaws.{passed, lacks-refuses}
 use Rattle.array.proofs.RunLaws.{clear-size}
 use Rattle.array.proofs.ReplyLaws.{input-tabled, values-tabled, places-roomy, run-done, tick-done}
 use Rattle.array.proofs.run.work_out.Statement.{statement}

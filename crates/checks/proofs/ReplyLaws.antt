@@ -13,7 +13,7 @@ use Rattle.verdict.specs.Verdicts.{Says}
 use Rattle.verdict.specs.declared.judge.Extent.{Extent}
 use Rattle.verdict.specs.declared.judge.Verdict.the-variants.{Accepted}
 use Rattle.tables.specs.Tables.{Long}
-use Rattle.checks.specs.Answers.{roomLimit, tickChecks, checksOf, numberOf, Besides, Lacks, Granted, Replies}
+use Rattle.checks.specs.Replies.{roomLimit, tickChecks, checksOf, numberOf, Besides, Lacks, Granted, Replies}
 use Rattle.checks.specs.declared.RunReply.{RunReply}
 use Rattle.checks.specs.declared.RunReply.the-variants.{Ticks, Refused, Tables, Large, Few, Late}
 use Rattle.checks.proofs.RunReply.{the-type as reply-type}

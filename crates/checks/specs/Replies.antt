@@ -1,4 +1,4 @@
--- What a run and a single tick answer: 'a run adds 13 to 15, a single tick 16 as well'.
+-- What a run and a single tick answer: 'a run adds 13 to 15, a single tick 16 as well'. (REFERENCE 5.1, 13 to 16)
 use mathlib.Core.Path.{_≡_}
 use mathlib.Core.Logic.{_⊎_}
 use Prim.Native.Nat.{ℕ, _<_, _≤_}

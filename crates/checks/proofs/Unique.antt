@@ -13,7 +13,7 @@ use Rattle.verdict.specs.declared.judge.Extent.{Extent}
 use Rattle.verdict.specs.declared.judge.Verdict.the-variants.{Accepted}
 use Rattle.verdict.proofs.Unique.{says-unique}
 use Rattle.verdict.proofs.Accepted.{sizes-same, no-refusal}
-use Rattle.checks.specs.Answers.{numberOf, Besides, Lacks, Denied, Granted, Replies}
+use Rattle.checks.specs.Replies.{numberOf, Besides, Lacks, Denied, Granted, Replies}
 use Rattle.checks.specs.declared.RunReply.{RunReply}
 use Rattle.checks.specs.declared.RunReply.the-variants.{Ticks, Refused, Tables, Large, Few, Late}
 
