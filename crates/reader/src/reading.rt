@@ -16,7 +16,7 @@ pub fn read(s: &[u8]) -> Reading
     if head != 0 {
         return Reading::Refused(head);
     }
-    let j = body::job_of(s);
+    let j = crate::body::job_of(s);
     let number = job::limits::number(j);
     if number != 0 {
         return Reading::Refused(number);

@@ -8,5 +8,3 @@ pub mod FirstPairs
 pub mod Saying
 pub mod Unique
 pub mod Accepted
-pub mod Dimensions
-pub mod Designs

@@ -1,5 +1,5 @@
 -- The words of Mapping, Rules and Extents over lists of any length: a job of n entries and k place rows. Only `Dimensions` speaks of it.
--- At all that a record has they are its rules, and at what is used of it they hold exactly if these do (proofs/Dimensions).
+-- At all that a record has they are its rules, and at what is used of it they hold exactly if these do.
 use mathlib.Core.Path.{_≡_}
 use mathlib.Core.List.{List, _++_, map, foldr}
 use Prim.Native.Nat.{ℕ, zero, suc, _+_, _*_, _<_, _∣_}
@@ -10,11 +10,11 @@ use Rattle.space.specs.Numbers.{up}
 use Rattle.space.specs.Vectors.{dotOf, minusOf, timesOf}
 use Rattle.space.specs.Divisors.{sizesOf, gcdOf}
 use Rattle.space.specs.Boxes.{Side, Box, countOf, reach}
-use Rattle.space.proofs.Zeros.{zeros}
-use Rattle.job.proofs.Designs.{Design}
+use Rattle.dimensions.proofs.Zeros.{zeros}
+use Rattle.dimensions.proofs.Designs.{Design}
 use Rattle.verdict.specs.Mapping.{orOne}
 use Rattle.verdict.specs.Collisions.{IsCollision}
 use Rattle.verdict.specs.Rules.{Ordered}
 
 -- 'Hx, Sx for the products'
 abbrev pub H : Design → List ℤ → ℤ

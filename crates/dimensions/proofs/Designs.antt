@@ -8,11 +8,11 @@ use Rattle.space.specs.Vectors.{entries, Sized}
 use Rattle.space.specs.Order.{Forward}
 use Rattle.space.specs.Divisors.{GcdOf, sizesOf}
 use Rattle.space.specs.Boxes.{Side, Box, Solid, countOf}
-use Rattle.space.proofs.Zeros.{zeros, flat}
+use Rattle.dimensions.proofs.Zeros.{zeros, flat}
 use Rattle.job.specs.declared.record.Stream.{Stream}
 use Rattle.job.specs.declared.record.Job.{Job}
 use Rattle.job.specs.Record.{box, stream, along, rowsOf, Firsts}
 use Rattle.job.specs.Limits.{boundLimit, pointLimit, stepLimit, rowLimit, Ruled}
 
 -- the box, of each stream the vector d and the kind, the time row H and the place rows S
 pub record Design : Type 0 where

@@ -12,23 +12,23 @@ use Rattle.space.specs.Vectors.{dotOf, minusOf, timesOf}
 use Rattle.space.specs.Order.{Before, AtMost}
 use Rattle.space.specs.Divisors.{GcdOf, sizesOf, gcdOf}
 use Rattle.space.specs.Boxes.{Box, In, across, countOf, reach}
-use Rattle.space.proofs.Zeros.{zeros, flat}
+use Rattle.dimensions.proofs.Zeros.{zeros, flat}
 use Rattle.space.proofs.VectorLaws.{minus-length}
 use Rattle.space.proofs.BoxLaws.{in-length}
 use Rattle.space.proofs.DivisorLaws.{gcd-is, gcd-more}
-use Rattle.space.proofs.Padding.{dot-zeros, dot-padded, minus-padded, same-padded, multiple-padded, before-padded, in-padded, points-padded, count-padded, reach-padded, reach-zeros}
+use Rattle.dimensions.proofs.Padding.{dot-zeros, dot-padded, minus-padded, same-padded, multiple-padded, before-padded, in-padded, points-padded, count-padded, reach-padded, reach-zeros}
 use Rattle.job.specs.declared.record.Job.{Job}
 use Rattle.job.specs.Limits.{Shaped}
-use Rattle.job.proofs.Designs.{Design, whole, used, widen}
-use Rattle.job.proofs.Dimensions.{Each, Dimensions, used-dimensions, by-whole}
+use Rattle.dimensions.proofs.Designs.{Design, whole, used, widen}
+use Rattle.dimensions.proofs.Records.{Each, Dimensions, used-dimensions, by-whole}
 use Rattle.verdict.specs.Mapping
 use Rattle.verdict.specs.Mapping.{orOne}
 use Rattle.verdict.specs.Rules
 use Rattle.verdict.specs.Rules.{Ordered}
 use Rattle.verdict.specs.Extents
 use Rattle.verdict.specs.Collisions.{IsCollision}
 use Rattle.verdict.specs.Verdicts.{FirstPair}
-use Rattle.verdict.proofs.Designs.{H, S, Stationary, g, hop, delay, Ahead, Even, SameCell, Collides, CollidesSome, Clear, All, rectangle, clock, delays, room, Filled}
+use Rattle.dimensions.proofs.Meanings.{H, S, Stationary, g, hop, delay, Ahead, Even, SameCell, Collides, CollidesSome, Clear, All, rectangle, clock, delays, room, Filled}
 
 -- ---- the rules of a record are the rules over lists, of all its places
 module _ (j : Job) where

@@ -12,14 +12,14 @@ use Rattle.space.specs.declared.vector.Vector.{Vector}
 use Rattle.space.specs.declared.boxes.Bounds.{Bounds}
 use Rattle.space.specs.Vectors.{entries, Sized}
 use Rattle.space.specs.Boxes.{Side, Box, side, boxOf, In, countOf, placeOf, pointOf, backOf}
-use Rattle.space.proofs.Zeros.{zeros, flat}
+use Rattle.dimensions.proofs.Zeros.{zeros, flat}
 use Rattle.space.proofs.VectorLaws.{two}
-use Rattle.space.proofs.Padding.{sized-padded, gcd-padded, forward-padded, points-padded, bounds-padded, solid-padded, count-padded, place-padded, point-padded, back-padded}
+use Rattle.dimensions.proofs.Padding.{sized-padded, gcd-padded, forward-padded, points-padded, bounds-padded, solid-padded, count-padded, place-padded, point-padded, back-padded}
 use Rattle.job.specs.declared.record.Stream.{Stream}
 use Rattle.job.specs.declared.record.Job.{Job}
 use Rattle.job.specs.Record.{FirstsFrom, OthersFrom, Firsts, noStream, streamsOf, rowsOf, box, points, stream, along}
 use Rattle.job.specs.Limits.{boundLimit, pointLimit, rowLimit, Unused, Idle, Shaped, Boxed, Sound, Rowed}
-use Rattle.job.proofs.Designs.{Design, whole, used, widen, BoxedOf, LineOf, SoundOf, RowedOf}
+use Rattle.dimensions.proofs.Designs.{Design, whole, used, widen, BoxedOf, LineOf, SoundOf, RowedOf}
 
 -- ---- the first n of four, and zeros
 -- a list of which all but the first n are z is its first n followed by z's

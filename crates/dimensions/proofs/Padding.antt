@@ -10,16 +10,16 @@ use native.Mathlib.Omega.{arith}
 use lib.ListN.{length}
 use lib.IntN.{ℤ, pos, negsuc, _+ℤ_, _*ℤ_, zero-*ℤ, *ℤ-zero}
 use lib.Signed.{_≤ℤ_, leZ, ≤ℤ-refl}
 use Rattle.space.specs.Numbers.{steps}
 use Rattle.space.specs.Vectors.{dotOf, plusOf, minusOf, timesOf, Sizes, Sized}
 use Rattle.space.specs.Order.{Before, Forward}
 use Rattle.space.specs.Divisors.{Divides, GcdOf, sizesOf}
 use Rattle.space.specs.Boxes.{Side, Box, side, In, inside, Solid, across, countOf, placeOf, pointOf, backOf, cornerOf, leastOf, greatestOf, reach, Least, Greatest}
-use Rattle.space.proofs.Zeros.{zeros, flat}
+use Rattle.dimensions.proofs.Zeros.{zeros, flat}
 use Rattle.space.proofs.Parts.{int}
 use Rattle.space.proofs.VectorLaws.{minus-length, times-length}
 use Rattle.space.proofs.OrderLaws.{before-forward, forward-before}
 use Rattle.space.proofs.BoxLaws.{in-length, point-in, place-point, point-place}
 
 -- ---- vectors
 -- zeros have the product 0 with any vector
