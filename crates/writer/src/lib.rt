@@ -1,6 +1,8 @@
 // The writer: a record and a lent buffer to the total, or the number of refusal, 3, 6, 7, 8 or 17.
+use job::numbers::Counted;
 use job::record::Job;
-ghost use Rattle.writer.specs.Writing.{Writes, Answers};
+ghost use mathlib.Core.Path.{_≡_};
+ghost use Rattle.writer.specs.Writing.{Writes, countedOf};
 
 // What writing answers: the total, a refusal by a limit, or 17 with the total that the buffer is shorter than.
 pub enum Wrote {
@@ -10,27 +12,18 @@ pub enum Wrote {
 }
 
 // The same in numbers: the number of refusal, 0 for a written file, and the total, 0 where the refusal returns nothing.
-pub struct Answer {
-    pub number: u8,
-    pub total: usize,
-}
-
-// What a reply answers.
-pub fn answer_of(w: Wrote) -> Answer
-    ensures { λ r. ⌜ Answers w r ⌝ }
+pub fn counted(w: Wrote) -> Counted
+    ensures { λ r. ⌜ r ≡ countedOf w ⌝ }
 {
     match w {
-        Wrote::Total(total) => Answer {
+        Wrote::Total(total) => Counted {
             number: 0,
-            total: total,
+            count: total as u64,
         },
-        Wrote::Refused(number) => Answer {
-            number: number,
-            total: 0,
-        },
-        Wrote::Short(total) => Answer {
+        Wrote::Refused(number) => Counted { number, count: 0 },
+        Wrote::Short(total) => Counted {
             number: 17,
-            total: total,
+            count: total as u64,
         },
     }
 }
