@@ -41,7 +41,7 @@ countedOf Late = record { number = 16; count = 0 }
 abbrev pub numberOf : RunReply → ℕ
 numberOf r = countedOf r .number
 
--- a reply on an accepted array with the sizes z returns its tick count or its room
+-- a reply on an accepted array of extent z returns its tick count or its room
 abbrev pub Besides : Extent → RunReply → Type 0
 Besides z (Ticks n) = n ≡ z .ticks
 Besides z (Refused v) = ⊥
@@ -50,7 +50,7 @@ Besides z (Large r) = r ≡ z .room
 Besides z (Few r) = r ≡ z .room
 Besides z Late = Unit {0}
 
--- the first of the checks that fails for the sizes z, or the tick count
+-- the first of the checks that fails for the extent z, or the tick count
 pub record Lacks (checks : Extent → Checks) (z : Extent) (r : RunReply) : Type 0 where
   pub first : First (checks z) (numberOf r)
   pub besides : Besides z r

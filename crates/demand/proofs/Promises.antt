@@ -1,4 +1,4 @@
--- DEMAND 3 for the code: what the promises of `array::run_of` and `calls::run_of_bytes` (`Runs`, `RunsOf`) and of `array::loops::loop_of` and `calls::loop_of_bytes` (`Loops`, `LoopsOf`) say together.
+-- DEMAND 3 for the code: what the promises of `array::run::run_of` and `calls::run_of_bytes` (`Runs`, `RunsOf`) and of `array::loops::loop_of` and `calls::loop_of_bytes` (`Loops`, `LoopsOf`) say together.
 use mathlib.Core.Path.{_≡_, refl, ap, subst, _∙_}
 use mathlib.Core.Logic.{inl, inr}
 use mathlib.Core.List.{List}

@@ -1,4 +1,4 @@
--- The words of Mapping, Rules and Extents over lists of any length: a job of n entries and k place rows. Only `Dimensions` speaks of it.
+-- The words of Mapping, Rules and Extents over lists of any length: a job of n entries and k place rows. Only `Rules` speaks of it.
 -- At all that a record has they are its rules, and at what is used of it they hold exactly if these do.
 use mathlib.Core.Path.{_≡_}
 use mathlib.Core.List.{List, _++_, map, foldr}

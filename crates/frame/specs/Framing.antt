@@ -1,4 +1,4 @@
--- What the frame of a job holds: its counts, the ends of its rectangle, its bands and its timetable; contracts of functions that serve the array, the tick and the look-up cite these.
+-- What the frame of a job holds: its counts, the ends of its rectangle, its bands and its timetable; contracts of functions that serve the array cite these.
 use mathlib.Core.Path.{_≡_}
 use mathlib.Core.List.{List, [], _∷_}
 use Prim.Native.Nat.{ℕ, _<_, _≤_}

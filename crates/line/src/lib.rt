@@ -39,7 +39,7 @@ pub fn write_line(out: &mut [u8], n: u8, v: Verdict) -> usize
 fn lead_of(v: Verdict) -> Word
     ensures { λ r. ⌜ r ≡ lead v .word ⌝ }
 {
-    if let Verdict::Accepted(_size) = v {
+    if let Verdict::Accepted(_extent) = v {
         Word::AcceptedCells
     } else {
         Word::Refused
@@ -50,8 +50,8 @@ fn lead_of(v: Verdict) -> Word
 fn first_of(v: Verdict) -> Number
     ensures { λ r. ⌜ valueOf r ≡ lead v .value ⌝ }
 {
-    if let Verdict::Accepted(size) = v {
-        Number::Count(size.cells)
+    if let Verdict::Accepted(extent) = v {
+        Number::Count(extent.cells)
     } else {
         Number::Count(verdict::numbers::in_numbers(v).number as u64)
     }

@@ -70,14 +70,14 @@ fn put_stream(out: &mut [u8], at: usize, stream: u8) -> usize
 }
 
 // Two tokens that meet.
-fn put_link(out: &mut [u8], at: usize, n: u8, clash: Collision) -> usize
-    requires { ⌜ Fits (now out) at (fieldsBytes (linkFields n clash)) ⌝ }
-    ensures { λ r. ⌜ Put (now (out .entry)) at (fieldsBytes (linkFields n clash)) r (now (out .exit)) ⌝ }
+fn put_link(out: &mut [u8], at: usize, n: u8, collision: Collision) -> usize
+    requires { ⌜ Fits (now out) at (fieldsBytes (linkFields n collision)) ⌝ }
+    ensures { λ r. ⌜ Put (now (out .entry)) at (fieldsBytes (linkFields n collision)) r (now (out .exit)) ⌝ }
 {
-    let pair = clash.pair;
-    let i = put_stream(out, at, clash.stream);
+    let pair = collision.pair;
+    let i = put_stream(out, at, collision.stream);
     let j = put_pair(out, i, n, pair);
-    print::put_field(out, j, Word::Hops, Number::Signed(clash.hops))
+    print::put_field(out, j, Word::Hops, Number::Signed(collision.hops))
 }
 
 // All of it, and the next place.
@@ -93,6 +93,6 @@ pub fn put_fields(out: &mut [u8], at: usize, said: Said) -> usize
         Verdict::Precedence(s) => put_stream(out, at, s),
         Verdict::Hop(s) => put_stream(out, at, s),
         Verdict::Cell(pair) => put_pair(out, at, n, pair),
-        Verdict::Link(clash) => put_link(out, at, n, clash),
+        Verdict::Link(collision) => put_link(out, at, n, collision),
     }
 }

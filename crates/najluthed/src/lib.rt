@@ -1,4 +1,4 @@
-// The library for C, C++, Rust and Python: each function takes job bytes and answers in numbers. Names and types are those of include/najluthed.h.
+// The library for C, C++, Rust and Python: each function takes job bytes and answers in numbers. The functions, and the layout of what they answer, are those of include/najluthed.h.
 use array::lookup::Looked;
 use job::numbers::Counted;
 ghost use mathlib.Core.Path.{_≡_};

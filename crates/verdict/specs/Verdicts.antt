@@ -30,13 +30,13 @@ pub record FirstPair (P : List ℤ → List ℤ → Type 0) (p q : List ℤ) : T
   pub holds : P p q
   pub least : (p′ q′ : List ℤ) → P p′ q′ → Before (minusOf q p) (minusOf q′ p′) ⊎ ((minusOf q p ≡ minusOf q′ p′) × AtMost p p′)
 
--- it is the first pair of the stream whose tokens meet, with its hops
+-- it is the first pair of the stream whose tokens collide, with its hops
 abbrev pub FirstCollision : Job → Collision → Type 0
 FirstCollision j c =
     FirstPair (CollidesSome j (c .stream)) (entries (c .pair .p)) (entries (c .pair .q))
     × Collides j (c .stream) (entries (c .pair .p)) (entries (c .pair .q)) (c .hops)
 
--- 'No.' and 'Returns besides': 'the number is 0 for accepted, and stream and f are 0 where the table lists none', and so are the points and the sizes
+-- 'No.' and 'Returns besides': 'the number is 0 for accepted, and stream and f are 0 where the table lists none', and so are the points and the extent
 abbrev pub noPair : Pair
 noPair = record { p = zeroVector; q = zeroVector }
 

@@ -1,4 +1,4 @@
-// The verdict on a job: accepted with its sizes, or the first broken rule with its stream and its first pair.
+// The verdict on a job: accepted with its extent, or the first broken rule with its stream and its first pair.
 use crate::rules::FoundCollision;
 use crate::rules::FoundPair;
 use crate::rules::FoundStream;
@@ -64,8 +64,8 @@ pub fn judged(j: Job) -> Verdict
     if let FoundPair::At(c) = shared_cell {
         return Verdict::Cell(c);
     }
-    let jam = crate::rules::first_collision(j);
-    if let FoundCollision::At(c) = jam {
+    let collision = crate::rules::first_collision(j);
+    if let FoundCollision::At(c) = collision {
         return Verdict::Link(c);
     }
     Verdict::Accepted(crate::extents::extent_of(j))

@@ -24,12 +24,12 @@ pub fn room_in(v: Verdict) -> Room
     ensures { λ r. ⌜ r ≡ roomOf v ⌝ }
 {
     match v {
-        Verdict::Accepted(size) => Room::Places(size.room),
+        Verdict::Accepted(extent) => Room::Places(extent.room),
         Verdict::Limit(number) => Room::Refused(Verdict::Limit(number)),
         Verdict::Precedence(s) => Room::Refused(Verdict::Precedence(s)),
         Verdict::Hop(s) => Room::Refused(Verdict::Hop(s)),
         Verdict::Cell(pair) => Room::Refused(Verdict::Cell(pair)),
-        Verdict::Link(clash) => Room::Refused(Verdict::Link(clash)),
+        Verdict::Link(collision) => Room::Refused(Verdict::Link(collision)),
     }
 }
 

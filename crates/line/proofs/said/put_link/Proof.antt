@@ -17,10 +17,10 @@ abbrev streamed : tie.After-put-pair → tie.After-put-stream
 streamed c = c .before .before .before .before
 
 abbrev stream : tie.Start → List Field
-stream c = streamFields (c .args .clash .stream)
+stream c = streamFields (c .args .collision .stream)
 
 abbrev points : tie.Start → List Field
-points c = pairFields (c .args .n) (c .args .clash .pair)
+points c = pairFields (c .args .n) (c .args .collision .pair)
 
 points-room : (c : tie.Start) → Fits (now (c .args .out)) (c .args .at) (fieldsBytes (stream c ++ points c))
 points-room c = room-first (stream c ++ points c) _ (c .pre)
@@ -41,7 +41,7 @@ put-field-requires : tie.Need-put-field-requires
 put-field-requires c κs =
     let put = c .before .before .before .before in
     let s = start (streamed put) in
-    room-held (fieldBytes _) (s .args .clash .hops) (in-range (c .struct-told .given .1 .1 .0 .1)) (room-head _ _ _ (room-rest (stream s ++ points s) _ (s .pre) (points-put put)))
+    room-held (fieldBytes _) (s .args .collision .hops) (in-range (c .struct-told .given .1 .1 .0 .1)) (room-head _ _ _ (room-rest (stream s ++ points s) _ (s .pre) (points-put put)))
 
 same-length : tie.Need-same-length
 same-length c = search needs
@@ -53,7 +53,7 @@ returns c =
     let put = told .before .before .before .before in
     let s = start (streamed put) in
     put-rest (stream s ++ points s) _ (s .pre) (points-put put)
-    (put-last _ _ (put-held (fieldBytes _) (s .args .clash .hops) (in-range (told .struct-told .given .1 .1 .0 .1)) (hops .put-field .ensures)))
+    (put-last _ _ (put-held (fieldBytes _) (s .args .collision .hops) (in-range (told .struct-told .given .1 .1 .0 .1)) (hops .put-field .ensures)))
 
 pub put-link-spec : {M : Type 1} → statement M
 put-link-spec = tie.close (tie.spec put-stream-requires put-pair-requires put-field-requires same-length returns)

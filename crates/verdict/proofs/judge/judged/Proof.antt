@@ -81,8 +81,8 @@ enum-told-3 c = search needs
 first-collision-requires : tie.Need-first-collision-requires
 first-collision-requires c κs = search needs
 
-enum-known-jam : tie.Need-enum-known-jam
-enum-known-jam c = search needs
+enum-known-collision : tie.Need-enum-known-collision
+enum-known-collision c = search needs
 
 returns-4 : tie.Need-returns-4
 returns-4 c =
@@ -90,7 +90,7 @@ returns-4 c =
     let s = call .before in
     let u = s .before .before .before in
     let l = u .before .before .before in
-    says-link (past-late l .pre) (ahead l) (even u) (apart s) (rw (c .before .jam .given .1) at (call .first-collision .ensures))
+    says-link (past-late l .pre) (ahead l) (even u) (apart s) (rw (c .before .collision .given .1) at (call .first-collision .ensures))
 
 enum-told-4 : tie.Need-enum-told-4
 enum-told-4 c = search needs
@@ -111,4 +111,4 @@ returns-5 c =
     says-accepted (past-late l .pre) (ahead l) (even u) (apart s) (clear k) (c .extent-of .ensures)
 
 pub judged-spec : {M : Type 1} → statement M
-judged-spec = tie.close (tie.spec late-requires enum-known-late returns enum-told uneven-requires enum-known-uneven returns-2 enum-told-2 shared-cell-requires enum-known-shared-cell returns-3 enum-told-3 first-collision-requires enum-known-jam returns-4 enum-told-4 extent-of-requires returns-5)
+judged-spec = tie.close (tie.spec late-requires enum-known-late returns enum-told uneven-requires enum-known-uneven returns-2 enum-told-2 shared-cell-requires enum-known-shared-cell returns-3 enum-told-3 first-collision-requires enum-known-collision returns-4 enum-told-4 extent-of-requires returns-5)
