@@ -18,7 +18,7 @@ use Rattle.verdict.specs.Rules.{Ahead, Even}
 use Rattle.verdict.specs.Extents.{cells, room}
 use Rattle.verdict.proofs.Courses.{stationary-none}
 use Rattle.verdict.proofs.Meetings.{unit-sized}
-use Rattle.verdict.proofs.SizeLaws.{across-small, cells-are, delay-size, delays-next}
+use Rattle.verdict.proofs.SizeLaws.{reachLimit, delayLimit, across-small, cells-are, delays-size, delays-next}
 use Rattle.bands.specs.Bands.{Short}
 use Rattle.bands.specs.declared.Band.{Band}
 use Rattle.frame.specs.Frames.{from}
@@ -75,13 +75,13 @@ module _ {j : Job} (R : Runnable j) where
       record { rows = e .0; columns = e .1 .0 }
 
 -- ---- R can be counted
+-- two reaches of cells, and the w of four streams
+abbrev pub roomBound : ℕ
+roomBound = reachLimit * reachLimit * (4 * delayLimit)
+
 module _ (j : Job) (a : Acceptable j) where
-  pub cells-small : cells j ≤ 16752649 * 16752649
+  pub cells-small : cells j ≤ reachLimit * reachLimit
   cells-small = le-trans (le-of-eq (cells-are j)) (mul-le-mul (across-small j a _ refl (row0-sized j a)) (across-small j a _ refl (row1-sized j a)))
 
-  delays-small : (n : ℕ) → n ≤ j .m → delays j n ≤ n * 7620
-  delays-small zero h = omega arith
-  delays-small (suc n) h = omega (arith, delays-small n (omega arith), delay-size j n a h, magnitude (delay j n))
-
-  pub room-small : room j ≤ 16752649 * 16752649 * 30480
-  room-small = let d : delays j (j .m) ≤ 30480 = omega (arith, delays-small (j .m) (le-refl _), a .shaped .streams) in mul-le-mul cells-small d
+  pub room-small : room j ≤ roomBound
+  room-small = let d : delays j (j .m) ≤ 4 * delayLimit = omega (arith, delays-size j a (j .m) (le-refl _), a .shaped .streams) in mul-le-mul cells-small d

@@ -18,7 +18,12 @@ fileChecks s =
     (check 6 ((j : Job) → Lays j s → Boxed (j .bounds))
     (check 7 ((j : Job) → Lays j s → Firsts (Sound (j .m)) (j .m) (streamsOf j)) (check 8 ((j : Job) → Lays j s → Rowed j) done)))
 
+-- 'No.', 0 for a job
+abbrev pub numberOf : Reading → ℕ
+numberOf (R.Job j) = 0
+numberOf (R.Refused r) = r
+
 -- what a reply says of the bytes: the one acceptable job whose file they are, or the refusal
 abbrev pub Reads : List ℕ → Reading → Type 0
 Reads s (R.Job j) = Acceptable j × (fileOf j ≡ s)
-Reads s (R.Refused r) = First (fileChecks s) r × (r ≡ 0 → ⊥)
+Reads s (R.Refused r) = First (fileChecks s) (numberOf (R.Refused r)) × (r ≡ 0 → ⊥)

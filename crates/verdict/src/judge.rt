@@ -14,6 +14,13 @@ pub struct Extent {
     pub room: u64,
 }
 
+// Of an array that there is not.
+pub const NO_EXTENT: Extent = Extent {
+    cells: 0,
+    ticks: 0,
+    room: 0,
+};
+
 // Two points.
 pub struct Pair {
     pub p: Vector,

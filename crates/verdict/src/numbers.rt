@@ -1,5 +1,6 @@
 // The verdict in the document's numbers.
 use crate::judge::Extent;
+use crate::judge::NO_EXTENT;
 use crate::judge::Pair;
 use crate::judge::Verdict;
 ghost use mathlib.Core.Path.{_≡_};
@@ -26,11 +27,7 @@ pub fn in_numbers(v: Verdict) -> InNumbers
             q: space::vector::ZERO,
         },
         hops: 0,
-        extent: Extent {
-            cells: 0,
-            ticks: 0,
-            room: 0,
-        },
+        extent: NO_EXTENT,
     };
     match v {
         Verdict::Accepted(extent) => InNumbers { extent, ..none },

@@ -5,7 +5,7 @@ use native.Mathlib.Omega.{arith}
 use borrow.Author.Needs.{needs}
 use Rattle.frame.specs.Frames.{from}
 use Rattle.frame.specs.Framing.{Banded}
-use Rattle.frame.proofs.RoomLaws.{from-next, band-in, room-small}
+use Rattle.frame.proofs.RoomLaws.{from-next, band-in, room-small, roomBound}
 use Rattle.frame.proofs.band_after.Statement.{statement}
 use Rattle.frame.proofs.band_after.Tie as tie
 
@@ -26,7 +26,7 @@ module _ (c : tie.Then1) where
   next : start .args .b .from + start .args .cells * start .args .b .w ≡ from (start .args .j) (start .args .s + 1)
   next = ap₂ _+_ (banded .begin) (ap₂ _*_ (start .pre .1) (banded .delay)) ∙ sym (from-next (start .args .j) (start .args .s))
 
-  low : start .args .b .from + start .args .cells * start .args .b .w ≤ 16752649 * 16752649 * 30480
+  low : start .args .b .from + start .args .cells * start .args .b .w ≤ roomBound
   low = omega (arith, next, from-next (start .args .j) (start .args .s), band-in (start .pre .0) {s = start .args .s} (omega (arith, c .if1 .taken)), room-small (start .args .j) (start .pre .0 .acceptable))
 
 mul-band-of : tie.Need-mul-band-of
