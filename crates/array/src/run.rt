@@ -62,28 +62,15 @@ pub fn work_out(
     let f = frame::frame_of(j);
     let mut timetable = [0u64; frame::TIMETABLE];
     frame::fill_timetable(f, &mut timetable[..]);
+    let times = &timetable[..];
     match work {
         Work::Run => {
             clear(&mut places[..], extent.room as usize);
-            all_ticks(
-                f,
-                &timetable[..],
-                ticks,
-                input,
-                &mut values[..],
-                &mut places[..],
-            );
+            all_ticks(f, times, ticks, input, &mut values[..], &mut places[..]);
             RunReply::Ticks(ticks)
         }
         Work::Tick(t) => {
-            crate::tick::one_tick(
-                f,
-                &timetable[..],
-                t,
-                input,
-                &mut values[..],
-                &mut places[..],
-            );
+            crate::tick::one_tick(f, times, t, input, &mut values[..], &mut places[..]);
             RunReply::Ticks(ticks)
         }
     }

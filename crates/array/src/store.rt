@@ -2,25 +2,20 @@
 use frame::Frame;
 ghost use mathlib.Core.Path.{_≡_};
 ghost use Prim.Native.Nat.{ℕ, _+_, _*_, _%_, _<_};
-ghost use lib.ListN.{set};
+ghost use lib.ListN.{length, set};
 ghost use Rattle.job.specs.Record.{points as pointsOf};
 ghost use Rattle.verdict.specs.Mapping.{w};
-ghost use Rattle.tables.specs.Tables.{entryFor};
 ghost use Rattle.bands.specs.Bands.{at};
-ghost use Rattle.frame.specs.Frames.{cellOf};
 ghost use Rattle.frame.specs.Framing.{Timed};
 ghost use Rattle.array.specs.Steps.{Tabled, Roomy, BandOf, Slot, inBand, workedOr, Stored};
 
-// The value of the point at place k goes to its cell.
-fn put_value(f: Frame, s: u8, slot: u64, values: &[u32], band: &mut [u32], k: u64)
-    requires { ⌜ Tabled f (now values) × BandOf f s (now band) × (slot < w (f .job) s) × (k < pointsOf (f .job)) ⌝ }
-    ensures { λ _. ⌜ now (band .exit) ≡ set (now (band .entry)) (cellOf (f .job) k * w (f .job) s + slot) (entryFor (f .job) (now (values .entry)) s k) ⌝ }
+// v goes to place slot of cell x, in a band of n places a cell.
+fn put_value(band: &mut [u32], n: u64, slot: u64, x: u64, v: u32)
+    requires { ⌜ x * n + slot < length (now band) ⌝ }
+    ensures { λ _. ⌜ now (band .exit) ≡ set (now (band .entry)) (x * n + slot) v ⌝ }
 {
-    let b = frame::band_at(f.bands, s);
-    let spot = frame::spot_at(f, k);
-    let from = tables::table::place_in_table(s, f.points, k);
-    let i = (spot.cell * b.w + slot) as usize;
-    band[i] = values[from];
+    let i = (x * n + slot) as usize;
+    band[i] = v;
 }
 
 // The values of all points worked in tick t go to their cells.
@@ -29,12 +24,15 @@ fn put_points(f: Frame, timetable: &[u64], t: u64, s: u8, values: &[u32], band: 
     ensures { λ _. ⌜ Slot (f .job) s (t % w (f .job) s) (λ (x : ℕ). workedOr (f .job) t s (now (values .entry)) (pointsOf (f .job)) x (at (w (f .job) s) (now (band .entry)) x (t % w (f .job) s))) (now (band .entry)) (now (band .exit)) ⌝ }
 {
     let points = f.points;
-    let slot = t % frame::band_at(f.bands, s).w;
+    let n = frame::band_at(f.bands, s).w;
+    let slot = t % n;
     let mut k: u64 = 0;
     while k < points {
         let i = k as usize;
         if timetable[i] == t {
-            put_value(f, s, slot, values, &mut band[..], k);
+            let spot = frame::spot_at(f, k);
+            let from = tables::table::place_in_table(s, points, k);
+            put_value(&mut band[..], n, slot, spot.cell, values[from]);
         }
         k += 1;
     }

@@ -7,42 +7,43 @@ ghost use Prim.Native.Nat.{ℕ, _<_};
 ghost use lib.ListN.{getD};
 ghost use Rattle.job.specs.Record.{points as pointsOf};
 ghost use Rattle.frame.specs.Frames.{tickOf};
-ghost use Rattle.frame.specs.Framing.{Stands, Timed};
-ghost use Rattle.array.specs.Ticks.{incoming};
+ghost use Rattle.verdict.specs.Extents.{cells};
+ghost use Rattle.frame.specs.Framing.{Framed, Stands, Timed};
+ghost use Rattle.array.specs.Ticks.{arrival, incoming};
 ghost use Rattle.array.specs.Steps.{Tabled, Roomy, Point, Points};
 
-// What comes in on stream s at a spot.
-fn incoming_at(f: Frame, t: u64, input: &[u32], places: &[u32], s: u8, spot: Spot) -> u32
-    requires { ⌜ Tabled f (now input) × Roomy f (now places) × (s < f .job .m) × Stands f spot ⌝ }
-    ensures { λ r. ⌜ r ≡ incoming (f .job) (now (input .entry)) t (now (places .entry)) s (spot .cell) (spot .place) ⌝ }
+// What arrives on stream s at cell x.
+fn arriving_at(f: Frame, t: u64, places: &[u32], s: u8, x: u64) -> u32
+    requires { ⌜ Framed f × Roomy f (now places) × (s < f .job .m) × (x < cells (f .job)) ⌝ }
+    ensures { λ r. ⌜ r ≡ arrival (f .job) t (now (places .entry)) s x ⌝ }
 {
-    let found = tables::table::previous_at(f.job, s, spot.point);
-    match found {
-        Found::At(_q) => {
-            let b = frame::band_at(f.bands, s);
-            let from = b.from as usize;
-            let end = from + (f.cells * b.w) as usize;
-            bands::arriving(&places[from..end], f.rectangle, b, t % b.w, spot.cell)
-        }
-        Found::Nowhere => {
-            let i = tables::table::place_in_table(s, f.points, spot.place);
-            input[i]
-        }
-    }
+    let b = frame::band_at(f.bands, s);
+    let from = b.from as usize;
+    let end = from + (f.cells * b.w) as usize;
+    bands::arriving(&places[from..end], f.rectangle, b, t % b.w, x)
 }
 
-// What comes in on every stream.
+// What comes in on every stream at a spot: what arrives, or the input where there is no point before.
 fn incoming_all(f: Frame, t: u64, input: &[u32], places: &[u32], spot: Spot) -> [u32; 4]
     requires { ⌜ Tabled f (now input) × Roomy f (now places) × Stands f spot ⌝ }
     ensures { λ r. ⌜ ((s : ℕ) → s < f .job .m → getD r s 0 ≡ incoming (f .job) (now (input .entry)) t (now (places .entry)) s (spot .cell) (spot .place)) ⌝ }
 {
-    let m = f.job.m;
+    let j = f.job;
+    let m = j.m;
     let mut got = [0u32; 4];
     let mut s: u8 = 0;
     while s < m {
-        let v = incoming_at(f, t, input, places, s, spot);
         let i = s as usize;
-        got[i] = v;
+        let found = tables::table::previous_at(j, s, spot.point);
+        match found {
+            Found::At(_q) => {
+                got[i] = arriving_at(f, t, places, s, spot.cell);
+            }
+            Found::Nowhere => {
+                let from = tables::table::place_in_table(s, f.points, spot.place);
+                got[i] = input[from];
+            }
+        }
         s += 1;
     }
     got

@@ -9,9 +9,9 @@ use lib.Seq.{getD-set-same, getD-set-other, ext-getD}
 use lib.IntN.{ℤ}
 use lib.Signed.{_≤ℤ_}
 use borrow.Author.Count.{below-more}
-use Rattle.space.specs.Numbers.{Size, limit, entry, coordinate}
+use Rattle.space.specs.Numbers.{Size, limit, entry}
 use Rattle.space.specs.Vectors.{entries, dotOf, Sized}
-use Rattle.space.specs.Boxes.{In, Solid, placeOf, pointOf, leastOf, greatestOf, Least, Greatest}
+use Rattle.space.specs.Boxes.{In, Solid, pointOf, leastOf, greatestOf, Least, Greatest}
 use Rattle.space.proofs.Ints.{size-up}
 use Rattle.space.proofs.Machine.{held, held-as}
 use Rattle.space.proofs.BoxLaws.{SidesSized, in-solid, solid-in, point-in, place-below, steps-below}
@@ -28,7 +28,7 @@ use Rattle.verdict.specs.declared.judge.Extent.{Extent}
 use Rattle.verdict.specs.declared.judge.Verdict.the-variants.{Accepted}
 use Rattle.verdict.proofs.Accepted.{accepted-ahead, accepted-even}
 use Rattle.verdict.proofs.SizeLaws.{small-ends}
-use Rattle.bands.specs.Bands.{rectangleOf, Flat}
+use Rattle.bands.specs.Bands.{Flat}
 use Rattle.frame.specs.Frames.{tickOf, cellOf}
 use Rattle.frame.specs.Framing.{Runnable, Framed, Timed}
 use Rattle.frame.specs.declared.Frame.{Frame}

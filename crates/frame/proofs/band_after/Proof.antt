@@ -1,6 +1,6 @@
 -- Where the band ends the next one begins, inside the room.
 use mathlib.Core.Path.{_≡_, ap₂, sym, _∙_}
-use Prim.Native.Nat.{ℕ, _+_, _*_, _<_, _≤_}
+use Prim.Native.Nat.{_+_, _*_, _≤_}
 use native.Mathlib.Omega.{arith}
 use borrow.Author.Needs.{needs}
 use Rattle.frame.specs.Frames.{from}

@@ -1,8 +1,7 @@
 -- The number of Sx in the rectangle.
 use mathlib.Core.Path.{_≡_, refl, sym, ap, ap₂, subst, _∙_}
-use mathlib.Core.List.{List, [], _∷_}
+use mathlib.Core.List.{[], _∷_}
 use native.Mathlib.Omega.{arith}
-use lib.IntN.{ℤ}
 use Rattle.space.specs.Vectors.{entries}
 use Rattle.space.specs.Boxes.{Box, In, placeOf}
 use Rattle.space.proofs.Machine.{held, held-as}

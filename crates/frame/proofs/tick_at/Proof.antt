@@ -1,8 +1,8 @@
 -- The steps from the clock's start to the point's product.
-use mathlib.Core.Path.{_≡_, refl, ap, ap₂, _∙_}
+use mathlib.Core.Path.{refl, ap, ap₂, _∙_}
 use native.Mathlib.Omega.{arith}
 use Rattle.space.specs.Numbers.{Size, steps}
-use Rattle.space.specs.Vectors.{entries, dotOf}
+use Rattle.space.specs.Vectors.{entries}
 use Rattle.space.proofs.VectorLaws.{sized-up}
 use Rattle.job.proofs.Accepting.{time-sized, in-box-sized}
 use Rattle.verdict.specs.Mapping.{H}

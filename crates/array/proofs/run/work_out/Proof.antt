@@ -72,6 +72,9 @@ slice-aggregate-fill-timetable c = search needs
 fill-timetable-requires : tie.Need-fill-timetable-requires
 fill-timetable-requires c κs = let F = c .before .frame-of .ensures .1 in (F, few-points (F .runnable .acceptable))
 
+slice-aggregate-times : tie.Need-slice-aggregate-times
+slice-aggregate-times c = search needs
+
 enum-told : tie.Need-enum-told
 enum-told c = search needs
 
@@ -80,19 +83,15 @@ abbrev ready : tie.After-fill-timetable → tie.After-known-told2
 ready c = c .before .before .before
 
 clear-requires : tie.Need-clear-requires
-clear-requires c κs = enough (ready (c .before .before .before .before))
-
-slice-aggregate-all-ticks : tie.Need-slice-aggregate-all-ticks
-slice-aggregate-all-ticks c = search needs
+clear-requires c κs = let told = c .before in enough (ready (told .before .before .before .before))
 
 -- the places are cleared
 abbrev filled : tie.After-clear → tie.After-fill-timetable
-filled c = let told = c .before .before in told .before .before .before
+filled c = let told = c .before .before in told .before .before .before .before
 
 all-ticks-requires : tie.Need-all-ticks-requires
 all-ticks-requires c κs =
-    let lent = c .before .before in
-    let clear = lent .before .before .before in
+    let clear = c .before .before .before .before in
     let fill = filled clear in
     let at = ready fill in
     let a = start (judged at) .args in
@@ -104,12 +103,9 @@ all-ticks-requires c κs =
 enum-known-work : tie.Need-enum-known-work
 enum-known-work c = search needs
 
-slice-aggregate-one-tick : tie.Need-slice-aggregate-one-tick
-slice-aggregate-one-tick c = search needs
-
 -- what is asked is one tick
-abbrev asked : tie.After-timetable4 → tie.After-fill-timetable
-asked c = let told = c .before in told .before .before .before .before
+abbrev asked : tie.After-known-told3 → tie.After-fill-timetable
+asked c = let matched = c .before .before in matched .before .before .before
 
 one-tick-requires : tie.Need-one-tick-requires
 one-tick-requires c κs =
@@ -131,7 +127,7 @@ returns-3 : tie.Need-returns-3
 returns-3 c =
     let ran = c .before .before .before .before in
     let lent = ran .before .before .before in
-    let clear = lent .before .before .before in
+    let clear = lent .before .before in
     let fill = filled clear in
     let at = ready fill in
     let a = start (judged at) .args in
@@ -146,13 +142,13 @@ same-length-4 c = search needs
 returns-4 : tie.Need-returns-4
 returns-4 c =
     let ticked = c .before .before .before .before in
-    let lent = ticked .before .before .before in
-    let fill = asked lent in
+    let single = ticked .before .before .before in
+    let fill = asked single in
     let at = ready fill in
     let a = start (judged at) .args in
-    tick-done (a .work) (now (a .input)) (now (a .values)) (now (a .places)) _ _ (says (judged at)) (taken at) (fill .before .before .frame-of .ensures .0) (lent .before .before .work .given .1) (ticked .one-tick .ensures)
+    tick-done (a .work) (now (a .input)) (now (a .values)) (now (a .places)) _ _ (says (judged at)) (taken at) (fill .before .before .frame-of .ensures .0) (single .before .work .given .1) (ticked .one-tick .ensures)
 
 pub work-out-spec : {M : Type 1} → statement M
 work-out-spec =
     tie.close
-    (tie.spec enum-known-v returns lacking-requires enum-known-reply returns-2 frame-of-requires slice-aggregate-fill-timetable fill-timetable-requires enum-told clear-requires slice-aggregate-all-ticks all-ticks-requires enum-known-work slice-aggregate-one-tick one-tick-requires same-length same-length-2 returns-3 same-length-3 same-length-4 returns-4)
+    (tie.spec enum-known-v returns lacking-requires enum-known-reply returns-2 frame-of-requires slice-aggregate-fill-timetable fill-timetable-requires slice-aggregate-times enum-told clear-requires all-ticks-requires enum-known-work one-tick-requires same-length same-length-2 returns-3 same-length-3 same-length-4 returns-4)

@@ -1,5 +1,5 @@
 -- The bands of the first s streams are stored. The measure is what is left of the streams.
-use Prim.Native.Nat.{_+_, _*_, _-_, _<_, _≤_}
+use Prim.Native.Nat.{_+_, _*_, _^_, _-_, _<_, _≤_}
 use native.Mathlib.Omega.{arith}
 use lib.ListN.{length}
 use denote.Ref.{now}
@@ -48,7 +48,7 @@ module _ (c : tie.After-band-at Inv-loop μ-loop) where
   in-it = fits (begun .pre .0 .framed) (c .before .loop-test .taken) banded (roomy (c .before))
 
   -- and they are few
-  few : length (c .before .before .loop .places) * 4 < 18446744073709551616
+  few : length (c .before .before .loop .places) * 4 < 2 ^ 64
   few = omega (arith, begun .good, c .before .before .loop .inv .1 .size)
 
 mul-end : tie.Need-mul-end Inv-loop μ-loop

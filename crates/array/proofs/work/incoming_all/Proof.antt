@@ -1,48 +1,137 @@
 -- Of the first s streams the incoming values are got. The measure is what is left of the streams.
-use mathlib.Core.Path.{refl}
-use Prim.Native.Nat.{ℕ, _-_, _<_}
+use mathlib.Core.Path.{_≡_, refl, sym, ap, _∙_}
+use mathlib.Core.Logic.{⊎-elim}
+use mathlib.Core.List.{List}
+use mathlib.Core.Option.{Option}
+use Prim.Native.Nat.{ℕ, _+_, _*_, _-_, _<_}
 use native.Mathlib.Omega.{arith}
-use Rattle.tables.proofs.TableLaws.{few-streams, Firsts, firsts-step}
+use lib.ListN.{getD, set}
+use denote.Ref.{now}
+use borrow.Author.Needs.{needs}
+use Rattle.space.specs.Boxes.{foundOf}
+use Rattle.space.proofs.BoxLaws.{stands-in}
+use Rattle.job.specs.Record.{points}
+use Rattle.tables.specs.Tables.{previous}
+use Rattle.tables.proofs.TableLaws.{few-streams, few-points, entry-in, place-as, Firsts, firsts-step}
+use Rattle.frame.proofs.FrameLaws.{cell-below}
 use Rattle.array.specs.Ticks.{incoming}
+use Rattle.array.proofs.WorkLaws.{incoming-some, incoming-none}
 use Rattle.array.proofs.work.incoming_all.Statement.{statement}
 use Rattle.array.proofs.work.incoming_all.Tie as tie
 
 abbrev Inv-loop : tie.InvT-loop
-Inv-loop f t input places spot m got₀ s₀ got s = Firsts (λ (u : ℕ). incoming (f .job) input t places u (spot .cell) (spot .place)) got s
+Inv-loop f t input places spot j m got₀ s₀ got s = Firsts (λ (u : ℕ). incoming (f .job) input t places u (spot .cell) (spot .place)) got s
 
 abbrev μ-loop : tie.MeasureT-loop
-μ-loop f t input places spot m got₀ s₀ got s = m - s
+μ-loop f t input places spot j m got₀ s₀ got s = m - s
 
 loop-holds : tie.Need-loop-holds Inv-loop μ-loop
 loop-holds c = record { four = refl; done = λ u lu. absurd (omega arith) }
 
-incoming-at-requires : tie.Need-incoming-at-requires Inv-loop μ-loop
-incoming-at-requires c κs = let p = c .before .before .before .before .pre in (p .0, p .1, c .loop-test .taken, p .2)
+-- a stream below m
+module _ (c : tie.In-loop Inv-loop μ-loop) where
+  abbrev start : tie.Start Inv-loop μ-loop
+  start = let copied = c .before .before in copied .before .before .before
 
--- fewer than four
-small : (c : tie.In-loop Inv-loop μ-loop) → c .before .loop .s < 4
-small c = let p = c .before .before .before .before .pre in omega (arith, few-streams (p .0 .framed .runnable .acceptable), c .loop-test .taken)
+  abbrev s : ℕ
+  s = c .before .loop .s
+
+  small : s < 4
+  small = omega (arith, few-streams (start .pre .0 .framed .runnable .acceptable), c .loop-test .taken)
 
 cast-i : tie.Need-cast-i Inv-loop μ-loop
-cast-i c = omega (arith, small (c .before))
+cast-i c = omega (arith, small c)
+
+previous-at-requires : tie.Need-previous-at-requires Inv-loop μ-loop
+previous-at-requires c κs =
+    let q = start c .pre in
+    (q .0 .framed .runnable .acceptable, omega (arith, c .loop-test .taken), stands-in _ (start c .args .spot .place) (q .2 .low) (q .2 .point))
+
+enum-known-found : tie.Need-enum-known-found Inv-loop μ-loop
+enum-known-found c = search needs
+
+arriving-at-requires : tie.Need-arriving-at-requires Inv-loop μ-loop
+arriving-at-requires c κs =
+    let asked = c .before .before .before in
+    let at = asked .before in
+    let q = start at .pre in
+    let a = start at .args in
+    (q .0 .framed, q .1, at .loop-test .taken, omega (arith, q .2 .cell, cell-below (a .f .job) (q .0 .framed .runnable .acceptable) (a .spot .place) (q .2 .low)))
+
+-- what was asked on the stream
+module _ (c : tie.After-previous-at Inv-loop μ-loop) where
+  abbrev turn : tie.In-loop Inv-loop μ-loop
+  turn = c .before
+
+  found : {o : Option ℕ} → foundOf (c .previous-at .result) ≡ o → previous (start turn .args .f .job) (s turn) (start turn .args .spot .place) ≡ o
+  found e = sym (c .previous-at .ensures (start turn .args .spot .place) (start turn .pre .2 .point)) ∙ e
 
 mul-got : tie.Need-mul-got Inv-loop μ-loop
-mul-got c = omega (arith, small (c .before))
+mul-got c = let told = c .before in omega (arith, small (turn (told .before .before .before)))
 
 array-write-got : tie.Need-array-write-got Inv-loop μ-loop
-array-write-got c = omega (arith, small (c .before))
+array-write-got c = let told = c .before in small (turn (told .before .before .before))
+
+enum-told : tie.Need-enum-told Inv-loop μ-loop
+enum-told c = search needs
+
+place-in-table-requires : tie.Need-place-in-table-requires Inv-loop μ-loop
+place-in-table-requires c κs =
+    let at = turn (c .before .before) in
+    let q = start at .pre in
+    let n = few-points (q .0 .framed .runnable .acceptable) in
+    (omega (arith, small at), omega (arith, q .0 .framed .points), omega (arith, q .2 .low))
+
+-- where the input is read
+module _ (c : tie.After-place-in-table Inv-loop μ-loop) where
+  abbrev asked : tie.After-previous-at Inv-loop μ-loop
+  asked = c .before .before .before
+
+  there : c .place-in-table .result ≡ s (turn asked) * points (start (turn asked) .args .f .job) + start (turn asked) .args .spot .place
+  there = place-as (start (turn asked) .args .f .job) _ _ (c .place-in-table .ensures .1) (start (turn asked) .pre .0 .framed .points)
+
+mul-got-2 : tie.Need-mul-got-2 Inv-loop μ-loop
+mul-got-2 c = omega (arith, c .place-in-table .ensures .0)
+
+shared-slice-read-got : tie.Need-shared-slice-read-got Inv-loop μ-loop
+shared-slice-read-got c =
+    let at = turn (asked (c .before)) in
+    let a = start at .args in
+    let q = start at .pre in
+    omega (arith, there (c .before), entry-in (a .f .job) (s at) (a .spot .place) (at .loop-test .taken) (q .2 .low), q .0 .size)
+
+mul-got-3 : tie.Need-mul-got-3 Inv-loop μ-loop
+mul-got-3 c = omega (arith, small (turn (asked (c .before))))
+
+array-write-got-2 : tie.Need-array-write-got-2 Inv-loop μ-loop
+array-write-got-2 c = small (turn (asked (c .before)))
 
 add-s : tie.Need-add-s Inv-loop μ-loop
-add-s c = omega (arith, small (c .before))
+add-s c = omega (arith, small (turn (c .before)))
 
 loop-less : tie.Need-loop-less Inv-loop μ-loop
-loop-less c = omega arith
+loop-less c = omega (arith, turn (c .before) .loop-test .taken)
+
+-- one more is got
+one-more : {f : ℕ → ℕ} {got after : List ℕ} {s v : ℕ} → Firsts f got s → s < 4 → after ≡ set got s v → v ≡ f s → Firsts f after (s + 1)
+one-more d ls e ev = rw e (firsts-step _ d ls ev)
 
 loop-again : tie.Need-loop-again Inv-loop μ-loop
-loop-again c = firsts-step (c .incoming-at .result) (c .before .before .loop .inv) (small (c .before)) (c .incoming-at .ensures)
+loop-again c =
+    let at = turn (c .before) in
+    let a = start at .args in
+    let l = at .before .loop in
+    ⊎-elim
+    (λ y. one-more (l .inv) (small at) (y .4) (y .3 .ensures ∙ incoming-some (a .f .job) (now (a .input)) (a .t) (now (a .places)) (s at) (a .spot .cell) (a .spot .place) _ (found (c .before) (ap foundOf (y .1 .given .1)))))
+    (λ n.
+    let read : tie.After-place-in-table Inv-loop μ-loop = record { before = record { before = record { before = c .before; match = n .0 }; enum-told = n .1 }; place-in-table = n .2 } in
+    one-more (l .inv) (small at) (n .4) (ap (λ (i : ℕ). getD (now (a .input)) i 0) (there read) ∙ incoming-none (a .f .job) (now (a .input)) (a .t) (now (a .places)) (s at) (a .spot .cell) (a .spot .place) (found (c .before) (ap foundOf (n .1 .given .1)))))
+    (c .match .came)
 
 returns : tie.Need-returns Inv-loop μ-loop
 returns c = λ s ls. c .before .loop .inv .done s (omega (arith, c .loop-test .left))
 
 pub incoming-all-spec : {M : Type 1} → statement M
-incoming-all-spec = tie.close (tie.spec Inv-loop μ-loop loop-holds incoming-at-requires cast-i mul-got array-write-got add-s loop-less loop-again returns)
+incoming-all-spec =
+    tie.close
+    (tie.spec Inv-loop μ-loop loop-holds cast-i previous-at-requires enum-known-found arriving-at-requires mul-got array-write-got enum-told place-in-table-requires mul-got-2 shared-slice-read-got mul-got-3 array-write-got-2 add-s loop-less loop-again returns)
