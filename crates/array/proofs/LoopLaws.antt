@@ -20,7 +20,7 @@ use Rattle.tables.specs.Tables.{Long, entryFor, previous}
 use Rattle.cell.specs.Cells.{work}
 use Rattle.tables.proofs.TableLaws.{previous-before, same-work}
 use Rattle.array.specs.Loops.{incoming, Looped, loopChecks}
-use Rattle.array.specs.Steps.{Rowed}
+use Rattle.array.specs.Steps.{Fronted}
 use Rattle.tables.specs.Columns.{Column}
 
 -- ---- what came in
@@ -32,7 +32,7 @@ rest-is : (a : ℕ) (table : List ℕ) → rest a table ≡ drop a table
 rest-is a table = take-all (length table - a) (drop a table) (le-of-eq (length-drop a table))
 
 -- from a stream's row on it has a row
-pub rowed : {j : Job} {s from : ℕ} (table : List ℕ) → s < j .m → from ≡ s * points j → length table ≡ j .m * points j → Rowed j (rest from table)
+pub rowed : {j : Job} {s from : ℕ} (table : List ℕ) → s < j .m → from ≡ s * points j → length table ≡ j .m * points j → Fronted j (rest from table)
 rowed {j} {s} {from} table ls e size = rw (rest-is from table) (record { long = rw length-drop (omega (arith, row-within s (j .m) (points j) ls)) })
 
 -- and what comes in is found there

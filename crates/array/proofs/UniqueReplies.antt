@@ -16,7 +16,7 @@ use Rattle.checks.specs.declared.Work.{Work}
 use Rattle.checks.specs.declared.Work.the-variants.{Run, Tick}
 use Rattle.checks.proofs.ReplyLaws.{passed}
 use Rattle.checks.proofs.Unique.{replies-unique}
-use Rattle.array.specs.Runs.{cleared, Worked, Does, Runs, SingleTick}
+use Rattle.array.specs.Runs.{cleared, Worked, Does}
 use Rattle.array.proofs.UniqueTicks.{ticked-unique, ran-unique}
 
 -- ---- runs and single ticks
@@ -37,10 +37,3 @@ module _ (j : Job) (input values places v p v′ p′ : List ℕ) (r r′ : RunR
   -- so at most one reply, with one value table and one table of places, is right
   pub does-unique : (work : Work) → Does work j input values places v p r → Does work j input values places v′ p′ r′ → (r ≡ r′) × (v ≡ v′) × (p ≡ p′)
   does-unique work a b = let e = replies-unique j (checksOf work j (length input) (length values) (length places)) (finished work) neither r r′ a b in (e .0, e .1 .0, e .1 .1)
-
-  -- of a run, and of a single tick
-  pub runs-unique : Runs j input values places v p r → Runs j input values places v′ p′ r′ → (r ≡ r′) × (v ≡ v′) × (p ≡ p′)
-  runs-unique = does-unique Run
-
-  pub single-tick-unique : (t : ℕ) → SingleTick t j input values places v p r → SingleTick t j input values places v′ p′ r′ → (r ≡ r′) × (v ≡ v′) × (p ≡ p′)
-  single-tick-unique t = does-unique (Tick t)

@@ -30,7 +30,7 @@ pub record BandOf (f : Frame) (s : ℕ) (band : List ℕ) : Type 0 where
   pub size : length band ≡ cells (f .job) * w (f .job) s
 
 -- a table, or what is left of it, has a row
-pub record Rowed (j : Job) (table : List ℕ) : Type 0 where
+pub record Fronted (j : Job) (table : List ℕ) : Type 0 where
   pub long : points j ≤ length table
 
 -- the point at place k is worked if its tick is t; the other columns are as before

@@ -13,7 +13,7 @@ ghost use Rattle.job.specs.Record.{box, points as pointsOf};
 ghost use Rattle.tables.specs.Tables.{previous};
 ghost use Rattle.tables.specs.Columns.{Ready};
 ghost use Rattle.array.specs.Loops.{incoming, Looped, countedOf, Loops};
-ghost use Rattle.array.specs.Steps.{Rowed};
+ghost use Rattle.array.specs.Steps.{Fronted};
 
 // What the loop answers: the point count, or the number of refusal.
 pub enum LoopReply {
@@ -61,7 +61,7 @@ pub fn loop_within(j: Job, input: &[u32], values: &mut [u32]) -> LoopReply
 
 // The incoming value of stream s at p, the point at place k, from tables that begin with the stream's row.
 fn incoming_at(j: Job, s: u8, p: Vector, k: u64, input: &[u32], values: &[u32]) -> u32
-    requires { ⌜ Acceptable j × (s < j .m) × Rowed j (now input) × Rowed j (now values) × (k < pointsOf j) × (entries p ≡ pointOf (box j) k) ⌝ }
+    requires { ⌜ Acceptable j × (s < j .m) × Fronted j (now input) × Fronted j (now values) × (k < pointsOf j) × (entries p ≡ pointOf (box j) k) ⌝ }
     ensures { λ r. ⌜ r ≡ given (previous j s k) (getD (now (input .entry)) k 0) (λ (q : ℕ). getD (now (values .entry)) q 0) ⌝ }
 {
     let found = tables::table::previous_at(j, s, p);

@@ -10,17 +10,18 @@ use Rattle.verdict.specs.declared.judge.Verdict.the-variants.{Limit}
 use Rattle.verdict.proofs.Unique.{says-unique, counts-unique}
 use Rattle.verdict.specs.declared.room.Room.{Room}
 use Rattle.checks.specs.declared.RunReply.{RunReply}
-use Rattle.checks.specs.declared.RunReply.the-variants as Run
+use Rattle.checks.specs.declared.RunReply.the-variants as Reply
+use Rattle.checks.specs.declared.Work.{Work}
 use Rattle.tables.proofs.RowLaws.{row-unique}
 use Rattle.array.specs.declared.loops.LoopReply.{LoopReply}
 use Rattle.array.specs.declared.lookup.Lookup.{Lookup}
 use Rattle.array.proofs.LoopUnique.{loops-unique}
-use Rattle.array.proofs.UniqueReplies.{runs-unique, single-tick-unique}
+use Rattle.array.proofs.UniqueReplies.{does-unique}
 use Rattle.array.proofs.Unique.{looks-unique}
 use Rattle.line.specs.Lines.{lineOf, Writes}
 use Rattle.line.proofs.Printing.{writes-unique}
 use Rattle.calls.specs.declared.Measures.{Measures}
-use Rattle.calls.specs.Bytes.{SaysOf, CountsOf, MeasuresIn, MeasuresOf, RunsOf, SingleTickOf, LoopsOf, RowOf, LooksOf, Prints, WritesOf}
+use Rattle.calls.specs.Bytes.{SaysOf, CountsOf, MeasuresIn, MeasuresOf, DoesOf, LoopsOf, RowOf, LooksOf, Prints, WritesOf}
 use Rattle.calls.proofs.BytesLaws.{of-bytes-unique}
 
 -- the verdict, and the room count in it
@@ -43,14 +44,11 @@ measures-of-unique s r r′ = of-bytes-unique s (λ n e f. e ∙ sym f) same
 -- a run and a single tick
 module _ (s input values places v p v′ p′ : List ℕ) (r r′ : RunReply) where
   -- of bytes that are refused
-  unread : (n : ℕ) → (r ≡ Run.Refused (Limit n)) × (v ≡ values) × (p ≡ places) → (r′ ≡ Run.Refused (Limit n)) × (v′ ≡ values) × (p′ ≡ places) → (r ≡ r′) × (v ≡ v′) × (p ≡ p′)
+  unread : (n : ℕ) → (r ≡ Reply.Refused (Limit n)) × (v ≡ values) × (p ≡ places) → (r′ ≡ Reply.Refused (Limit n)) × (v′ ≡ values) × (p′ ≡ places) → (r ≡ r′) × (v ≡ v′) × (p ≡ p′)
   unread n a b = (a .0 ∙ sym (b .0), a .1 ∙ sym (b .1), a .2 ∙ sym (b .2))
 
-  pub runs-of-unique : RunsOf s input values places v p r → RunsOf s input values places v′ p′ r′ → (r ≡ r′) × (v ≡ v′) × (p ≡ p′)
-  runs-of-unique = of-bytes-unique s unread (λ j. runs-unique j input values places v p v′ p′ r r′)
-
-  pub single-tick-of-unique : (t : ℕ) → SingleTickOf t s input values places v p r → SingleTickOf t s input values places v′ p′ r′ → (r ≡ r′) × (v ≡ v′) × (p ≡ p′)
-  single-tick-of-unique t = of-bytes-unique s unread (λ j. single-tick-unique j input values places v p v′ p′ r r′ t)
+  pub does-of-unique : (work : Work) → DoesOf work s input values places v p r → DoesOf work s input values places v′ p′ r′ → (r ≡ r′) × (v ≡ v′) × (p ≡ p′)
+  does-of-unique work = of-bytes-unique s unread (λ j. does-unique j input values places v p v′ p′ r r′ work)
 
 -- the loop
 pub loops-of-unique : (s input before after after′ : List ℕ) (r r′ : LoopReply) → LoopsOf s input before after r → LoopsOf s input before after′ r′ → (r ≡ r′) × (after ≡ after′)

@@ -13,9 +13,11 @@ use Rattle.verdict.specs.declared.judge.Verdict.{Verdict}
 use Rattle.verdict.specs.declared.judge.Verdict.the-variants.{Limit}
 use Rattle.verdict.specs.declared.room.Room.{Room}
 use Rattle.checks.specs.declared.RunReply.{RunReply}
-use Rattle.checks.specs.declared.RunReply.the-variants as Run
+use Rattle.checks.specs.declared.RunReply.the-variants as Reply
+use Rattle.checks.specs.declared.Work.{Work}
+use Rattle.checks.specs.declared.Work.the-variants.{Run, Tick}
 use Rattle.tables.specs.Rows.{Row}
-use Rattle.array.specs.Runs.{Runs, SingleTick}
+use Rattle.array.specs.Runs.{Does}
 use Rattle.array.specs.Loops.{Loops}
 use Rattle.array.specs.declared.loops.LoopReply.{LoopReply}
 use Rattle.array.specs.declared.loops.LoopReply.the-variants as Loop
@@ -47,13 +49,15 @@ abbrev pub MeasuresOf : List ℕ → Measures → Type 0
 MeasuresOf s r = OfBytes s (λ (number : ℕ). r ≡ noMeasures number) (λ (j : Job). MeasuresIn j r)
 
 -- a run and a single tick: a refusal leaves values and places as they were
+abbrev pub DoesOf : Work → List ℕ → List ℕ → List ℕ → List ℕ → List ℕ → List ℕ → RunReply → Type 0
+DoesOf work s input values places values′ places′ r =
+    OfBytes s (λ (number : ℕ). (r ≡ Reply.Refused (Limit number)) × (values′ ≡ values) × (places′ ≡ places)) (λ (j : Job). Does work j input values places values′ places′ r)
+
 abbrev pub RunsOf : List ℕ → List ℕ → List ℕ → List ℕ → List ℕ → List ℕ → RunReply → Type 0
-RunsOf s input values places values′ places′ r =
-    OfBytes s (λ (number : ℕ). (r ≡ Run.Refused (Limit number)) × (values′ ≡ values) × (places′ ≡ places)) (λ (j : Job). Runs j input values places values′ places′ r)
+RunsOf = DoesOf Run
 
 abbrev pub SingleTickOf : ℕ → List ℕ → List ℕ → List ℕ → List ℕ → List ℕ → List ℕ → RunReply → Type 0
-SingleTickOf t s input values places values′ places′ r =
-    OfBytes s (λ (number : ℕ). (r ≡ Run.Refused (Limit number)) × (values′ ≡ values) × (places′ ≡ places)) (λ (j : Job). SingleTick t j input values places values′ places′ r)
+SingleTickOf t = DoesOf (Tick t)
 
 -- the loop
 abbrev pub LoopsOf : List ℕ → List ℕ → List ℕ → List ℕ → LoopReply → Type 0

@@ -6,6 +6,7 @@ use checks::Work;
 use job::record::Job;
 use reader::reading::Reading;
 use verdict::judge::Extent;
+use verdict::judge::NO_EXTENT;
 use verdict::judge::Verdict;
 use verdict::room::Room;
 ghost use mathlib.Core.Path.{_≡_};
@@ -72,17 +73,12 @@ fn measured(j: Job) -> Measures
 fn refused(number: u8) -> Measures
     ensures { λ r. ⌜ r ≡ noMeasures number ⌝ }
 {
-    let extent = Extent {
-        cells: 0,
-        ticks: 0,
-        room: 0,
-    };
     Measures {
         number,
         dimensions: 0,
         streams: 0,
         points: 0,
-        extent,
+        extent: NO_EXTENT,
     }
 }
 

@@ -10,12 +10,13 @@ use Rattle.verdict.specs.declared.numbers.InNumbers.{InNumbers}
 use Rattle.verdict.specs.declared.room.Room.{Room}
 use Rattle.checks.specs.Replies.{countedOf as runCounted}
 use Rattle.checks.specs.declared.RunReply.{RunReply}
+use Rattle.checks.specs.declared.Work.{Work}
 use Rattle.array.specs.Loops.{countedOf as loopCounted}
 use Rattle.array.specs.declared.loops.LoopReply.{LoopReply}
 use Rattle.array.specs.Lookups.{lookedOf}
 use Rattle.array.specs.declared.lookup.Lookup.{Lookup}
 use Rattle.array.specs.declared.lookup.Looked.{Looked}
-use Rattle.calls.specs.Bytes.{SaysOf, CountsOf, MeasuresOf, RunsOf, SingleTickOf, LoopsOf, LooksOf}
+use Rattle.calls.specs.Bytes.{SaysOf, CountsOf, MeasuresOf, DoesOf, LoopsOf, LooksOf}
 use Rattle.calls.specs.declared.Measures.{Measures}
 use Rattle.najluthed.specs.declared.Judged.{Judged}
 use Rattle.najluthed.specs.declared.Done.{Done}
@@ -45,11 +46,8 @@ AnswersSizes s a = (m : Measures) × MeasuresOf s m × (a ≡ sizes m)
 abbrev pub AnswersRoom : List ℕ → Done → Type 0
 AnswersRoom s a = (r : Room) × CountsOf s r × (a ≡ done (roomCounted r))
 
-abbrev pub AnswersRun : List ℕ → List ℕ → List ℕ → List ℕ → List ℕ → List ℕ → Done → Type 0
-AnswersRun s input values places values′ places′ a = (r : RunReply) × RunsOf s input values places values′ places′ r × (a ≡ done (runCounted r))
-
-abbrev pub AnswersTick : ℕ → List ℕ → List ℕ → List ℕ → List ℕ → List ℕ → List ℕ → Done → Type 0
-AnswersTick t s input values places values′ places′ a = (r : RunReply) × SingleTickOf t s input values places values′ places′ r × (a ≡ done (runCounted r))
+abbrev pub AnswersWork : Work → List ℕ → List ℕ → List ℕ → List ℕ → List ℕ → List ℕ → Done → Type 0
+AnswersWork work s input values places values′ places′ a = (r : RunReply) × DoesOf work s input values places values′ places′ r × (a ≡ done (runCounted r))
 
 abbrev pub AnswersLoop : List ℕ → List ℕ → List ℕ → List ℕ → Done → Type 0
 AnswersLoop s input before after a = (r : LoopReply) × LoopsOf s input before after r × (a ≡ done (loopCounted r))

@@ -1,11 +1,12 @@
 // The library for C, C++, Rust and Python: each function takes job bytes and answers in numbers. The functions, and the layout of what they answer, are those of include/najluthed.h.
 use array::lookup::Looked;
+use checks::Work;
 use job::numbers::Counted;
 ghost use mathlib.Core.Path.{_≡_};
 ghost use Prim.Native.Nat.{_≤_};
 ghost use lib.ListN.{length};
 ghost use Rattle.calls.specs.Bytes.{WritesOf};
-ghost use Rattle.najluthed.specs.Calls.{done, point, AnswersVerdict, AnswersSizes, AnswersRoom, AnswersRun, AnswersTick, AnswersLoop, AnswersPoint};
+ghost use Rattle.najluthed.specs.Calls.{done, point, AnswersVerdict, AnswersSizes, AnswersRoom, AnswersWork, AnswersLoop, AnswersPoint};
 
 // The number of refusal, 0 for accepted; stream and hops are 0 where the table lists none.
 #[repr(C)]
@@ -102,7 +103,7 @@ pub extern "C" fn najluthed_run(
     values: &mut [u32],
     places: &mut [u32],
 ) -> Done
-    ensures { λ a. ⌜ AnswersRun (now (job .entry)) (now (input .entry)) (now (values .entry)) (now (places .entry)) (now (values .exit)) (now (places .exit)) a ⌝ }
+    ensures { λ a. ⌜ AnswersWork Work.Run (now (job .entry)) (now (input .entry)) (now (values .entry)) (now (places .entry)) (now (values .exit)) (now (places .exit)) a ⌝ }
 {
     let r = calls::run_of_bytes(job, input, &mut values[..], &mut places[..]);
     done_of(checks::counted(r))
@@ -117,7 +118,7 @@ pub extern "C" fn najluthed_tick(
     values: &mut [u32],
     places: &mut [u32],
 ) -> Done
-    ensures { λ a. ⌜ AnswersTick tick (now (job .entry)) (now (input .entry)) (now (values .entry)) (now (places .entry)) (now (values .exit)) (now (places .exit)) a ⌝ }
+    ensures { λ a. ⌜ AnswersWork (Work.Tick tick) (now (job .entry)) (now (input .entry)) (now (values .entry)) (now (places .entry)) (now (values .exit)) (now (places .exit)) a ⌝ }
 {
     let r = calls::tick_of_bytes(job, tick, input, &mut values[..], &mut places[..]);
     done_of(checks::counted(r))

@@ -41,7 +41,7 @@ pub record Collides (j : Job) (s : ℕ) (p q : List ℤ) (f : ℤ) : Type 0 wher
   pub time : H j (minusOf q p) ≡ f *ℤ delay j s
   pub collide : IsCollision (stream j s .kind) (along j s) (g j s) (minusOf q p) f
 
--- two tokens of the stream from p and q meet; and that no tokens of it do
+-- two tokens of the stream from p and q collide; and that no tokens of it do
 abbrev pub CollidesSome : Job → ℕ → List ℤ → List ℤ → Type 0
 CollidesSome j s p q = (f : ℤ) × Collides j s p q f
 

@@ -34,7 +34,7 @@ FindsStream P m FoundStream.Nowhere = (s : ℕ) → s < m → P s
 abbrev pub Still : Job → List ℤ → Type 0
 Still j y = (H j y ≡ pos 0) × (S j y ≡ pos 0 ∷ pos 0 ∷ [])
 
--- two points y apart meet on the stream's links, f hops apart
+-- two tokens whose points are y apart collide, f hops apart
 pub record CollidesBy (j : Job) (s : ℕ) (y : List ℤ) (f : ℤ) : Type 0 where
   pub place : S j y ≡ timesOf f (hop j s)
   pub time : H j y ≡ f *ℤ delay j s
@@ -43,7 +43,7 @@ pub record CollidesBy (j : Job) (s : ℕ) (y : List ℤ) (f : ℤ) : Type 0 wher
 abbrev pub CollidesBySome : Job → ℕ → List ℤ → Type 0
 CollidesBySome j s y = (f : ℤ) × CollidesBy j s y f
 
--- the hops at which they meet, or that they do not
+-- the hops at which they collide, or that they do not
 abbrev pub FindsHops : Job → ℕ → List ℤ → FoundHops → Type 0
 FindsHops j s y (FoundHops.Hops f) = CollidesBy j s y f
 FindsHops j s y FoundHops.Apart = (f : ℤ) → CollidesBy j s y f → ⊥
@@ -54,7 +54,7 @@ FindsGap P B (FoundGap.At y) =
     Forward (entries y) × Apart B (entries y) × P (entries y) × ((y′ : List ℤ) → Forward y′ → Apart B y′ → P y′ → AtMost (entries y) y′)
 FindsGap P B FoundGap.Nowhere = (y : List ℤ) → Forward y → Apart B y → P y → ⊥
 
--- the first difference at which two tokens of the stream meet, and the hops
+-- the first difference at which two tokens of the stream collide, and the hops
 abbrev pub FindsLink : Job → ℕ → FoundLink → Type 0
 FindsLink j s (FoundLink.At l) = FindsGap (CollidesBySome j s) (senders j s) (FoundGap.At (l .gap)) × CollidesBy j s (entries (l .gap)) (l .hops)
 FindsLink j s FoundLink.Nowhere = FindsGap (CollidesBySome j s) (senders j s) FoundGap.Nowhere
@@ -64,7 +64,7 @@ abbrev pub FindsPair : Job → FoundPair → Type 0
 FindsPair j (FoundPair.At c) = FirstPair (SameCell j) (entries (c .p)) (entries (c .q))
 FindsPair j FoundPair.Nowhere = (p q : List ℤ) → SameCell j p q → ⊥
 
--- the first pair of a stream whose tokens meet
+-- the first pair of a stream whose tokens collide
 abbrev pub FindsCollisionOn : Job → ℕ → FoundCollision → Type 0
 FindsCollisionOn j s (FoundCollision.At c) = (c .stream ≡ s) × FirstCollision j c
 FindsCollisionOn j s FoundCollision.Nowhere = Clear j s
