@@ -164,7 +164,7 @@ pub fn line_of_bytes(out: &mut [u8], s: &[u8]) -> usize
 {
     let read = reader::reading::read(s);
     match read {
-        Reading::Refused(number) => line::write_line(out, 0, Verdict::Limit(number)),
-        Reading::Job(j) => line::write_line(out, j.n, verdict::judge::judged(j)),
+        Reading::Refused(number) => line::write::write_line(out, 0, Verdict::Limit(number)),
+        Reading::Job(j) => line::write::write_line(out, j.n, verdict::judge::judged(j)),
     }
 }

@@ -1,4 +1,5 @@
 // What a line says of a verdict past its first number, field by field: a word and a number each, put into a buffer from a place on.
+use print::line_writer::Line;
 use print::numbers::Number;
 use print::words::Word;
 use space::vector::Vector;
@@ -6,11 +7,13 @@ use verdict::judge::Collision;
 use verdict::judge::Extent;
 use verdict::judge::Pair;
 use verdict::judge::Verdict;
+ghost use mathlib.Core.Path.{_≡_};
 ghost use Prim.Native.Nat.{_-_};
 ghost use mathlib.Core.List.{[], _∷_};
 ghost use lib.ListN.{take};
 ghost use Rattle.space.specs.Vectors.{entries};
 ghost use Rattle.buffer.specs.Put.{Fits, Put};
+ghost use Rattle.print.specs.LineWriter.{wrote};
 ghost use Rattle.line.specs.Fields.{fieldsBytes, coordinates, pairFields, sizeFields, streamFields, linkFields, besides};
 
 // A verdict on a job of n dimensions, of which a point shows as many coordinates.
@@ -27,7 +30,7 @@ fn put_coordinate(out: &mut [u8], at: usize, n: u8, k: u8, w: Word, x: i64) -> u
     if n <= k {
         return at;
     }
-    print::put_field(out, at, w, Number::Signed(x))
+    print::field::put_field(out, at, w, Number::Signed(x))
 }
 
 // The first n coordinates of a point, after the word w and separated by a blank.
@@ -57,8 +60,8 @@ fn put_sizes(out: &mut [u8], at: usize, z: Extent) -> usize
     requires { ⌜ Fits (now out) at (fieldsBytes (sizeFields z)) ⌝ }
     ensures { λ r. ⌜ Put (now (out .entry)) at (fieldsBytes (sizeFields z)) r (now (out .exit)) ⌝ }
 {
-    let i = print::put_field(out, at, Word::Ticks, Number::Count(z.ticks));
-    print::put_field(out, i, Word::Room, Number::Count(z.room))
+    let i = print::field::put_field(out, at, Word::Ticks, Number::Count(z.ticks));
+    print::field::put_field(out, i, Word::Room, Number::Count(z.room))
 }
 
 // A stream.
@@ -66,7 +69,7 @@ fn put_stream(out: &mut [u8], at: usize, stream: u8) -> usize
     requires { ⌜ Fits (now out) at (fieldsBytes (streamFields stream)) ⌝ }
     ensures { λ r. ⌜ Put (now (out .entry)) at (fieldsBytes (streamFields stream)) r (now (out .exit)) ⌝ }
 {
-    print::put_field(out, at, Word::Stream, Number::Count(stream as u64))
+    print::field::put_field(out, at, Word::Stream, Number::Count(stream as u64))
 }
 
 // Two tokens that meet.
@@ -77,7 +80,7 @@ fn put_link(out: &mut [u8], at: usize, n: u8, collision: Collision) -> usize
     let pair = collision.pair;
     let i = put_stream(out, at, collision.stream);
     let j = put_pair(out, i, n, pair);
-    print::put_field(out, j, Word::Hops, Number::Signed(collision.hops))
+    print::field::put_field(out, j, Word::Hops, Number::Signed(collision.hops))
 }
 
 // All of it, and the next place.
@@ -94,5 +97,18 @@ pub fn put_fields(out: &mut [u8], at: usize, said: Said) -> usize
         Verdict::Hop(s) => put_stream(out, at, s),
         Verdict::Cell(pair) => put_pair(out, at, n, pair),
         Verdict::Link(collision) => put_link(out, at, n, collision),
+    }
+}
+
+// The same by a writer that holds its buffer.
+pub fn fields<'a>(l: Line<'a>, said: Said) -> Line<'a>
+    requires { ⌜ Fits (now (l .out)) (l .at) (fieldsBytes (besides (said .n) (said .verdict))) ⌝ }
+    ensures { λ r. ⌜ r ≡ wrote (l .entry) (fieldsBytes (besides (said .n) (said .verdict))) ⌝ }
+{
+    let at = l.at;
+    let next = put_fields(&mut *l.out, at, said);
+    Line {
+        out: l.out,
+        at: next,
     }
 }

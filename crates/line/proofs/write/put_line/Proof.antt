@@ -15,12 +15,12 @@ use Rattle.print.proofs.line_writer.number.Met as number-thm
 use Rattle.print.proofs.line_writer.end.Symbol as end-def
 use Rattle.print.proofs.line_writer.end.Met as end-thm
 use Rattle.line.proofs.Saying.{a-saying}
-use Rattle.line.proofs.fields.Symbol as fields-def
-use Rattle.line.proofs.fields.Met as fields-thm
-use Rattle.line.proofs.put_line.Key as key
-use Rattle.line.proofs.put_line as put-line
-use Rattle.line.proofs.put_line.Statement as stated
-use Rattle.line.proofs.put_line.Code as code
+use Rattle.line.proofs.said.fields.Symbol as fields-def
+use Rattle.line.proofs.said.fields.Met as fields-thm
+use Rattle.line.proofs.write.put_line.Key as key
+use Rattle.line.proofs.write.put_line as put-line
+use Rattle.line.proofs.write.put_line.Statement as stated
+use Rattle.line.proofs.write.put_line.Code as code
 
 pub put-line-spec : {M : Type 1} → stated.statement M
 unfolding code.routine tablesOf
@@ -31,5 +31,5 @@ put-line-spec 𝓤 H 𝓜 𝓖 𝓡 =
     (cited 𝓤 H (beginK 𝓤 H (𝓖 .A) (𝓜 .mem) (𝓡 .run)) 𝓜 𝓡 code.env begin-def.name begin-def.routine code.calls-print·line-writer·begin (begin-thm.met 𝓤 H 𝓜 𝓖 𝓡))
     (cited 𝓤 H (thinK a-word 𝓤 H (𝓖 .A)) 𝓜 𝓡 code.env word-def.name word-def.routine code.calls-print·line-writer·word (word-thm.met 𝓤 H 𝓜 𝓖 𝓡))
     (cited 𝓤 H (thinK a-number 𝓤 H (𝓖 .A)) 𝓜 𝓡 code.env number-def.name number-def.routine code.calls-print·line-writer·number (number-thm.met 𝓤 H 𝓜 𝓖 𝓡))
-    (cited 𝓤 H (thinK a-saying 𝓤 H (𝓖 .A)) 𝓜 𝓡 code.env fields-def.name fields-def.routine code.calls-line·fields (fields-thm.met 𝓤 H 𝓜 𝓖 𝓡))
+    (cited 𝓤 H (thinK a-saying 𝓤 H (𝓖 .A)) 𝓜 𝓡 code.env fields-def.name fields-def.routine code.calls-line·said·fields (fields-thm.met 𝓤 H 𝓜 𝓖 𝓡))
     (cited 𝓤 H (endK 𝓤 H (𝓖 .A) (𝓜 .mem) (𝓡 .run)) 𝓜 𝓡 code.env end-def.name end-def.routine code.calls-print·line-writer·end (end-thm.met 𝓤 H 𝓜 𝓖 𝓡)))

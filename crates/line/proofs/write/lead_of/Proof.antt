@@ -3,8 +3,8 @@ use mathlib.Core.Path.{ap}
 use borrow.Author.Needs.{needs}
 use Rattle.line.specs.Fields.{Field}
 use Rattle.line.proofs.Leading.{not-accepted}
-use Rattle.line.proofs.lead_of.Statement.{statement}
-use Rattle.line.proofs.lead_of.Tie as tie
+use Rattle.line.proofs.write.lead_of.Statement.{statement}
+use Rattle.line.proofs.write.lead_of.Tie as tie
 
 enum-known-v : tie.Need-enum-known-v
 enum-known-v c = search needs

@@ -2,8 +2,8 @@
 use borrow.Author.Needs.{needs}
 use Rattle.buffer.proofs.Putting.{and-then, first, left}
 use Rattle.print.specs.Words.{wordBytes}
-use Rattle.print.proofs.put_field.Statement.{statement}
-use Rattle.print.proofs.put_field.Tie as tie
+use Rattle.print.proofs.field.put_field.Statement.{statement}
+use Rattle.print.proofs.field.put_field.Tie as tie
 
 put-word-requires : tie.Need-put-word-requires
 put-word-requires c κs = let start = c .before .before in first (wordBytes (start .args .w)) _ (start .pre)

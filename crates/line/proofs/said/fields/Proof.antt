@@ -6,10 +6,10 @@ use Rattle.print.proofs.Thin.{putK, thin-meets}
 use Rattle.line.proofs.Saying.{a-saying}
 use Rattle.line.proofs.said.put_fields.Symbol as put-def
 use Rattle.line.proofs.said.put_fields.Met as put-thm
-use Rattle.line.proofs.fields.Key as key
-use Rattle.line.proofs.fields as fields
-use Rattle.line.proofs.fields.Statement as stated
-use Rattle.line.proofs.fields.Code as code
+use Rattle.line.proofs.said.fields.Key as key
+use Rattle.line.proofs.said.fields as fields
+use Rattle.line.proofs.said.fields.Statement as stated
+use Rattle.line.proofs.said.fields.Code as code
 
 pub fields-spec : {M : Type 1} → stated.statement M
 unfolding code.routine tablesOf

@@ -6,8 +6,8 @@ use Rattle.verdict.specs.declared.judge.Verdict.{Verdict}
 use Rattle.verdict.specs.declared.numbers.InNumbers.{InNumbers}
 use Rattle.line.specs.Fields.{Field, lead}
 use Rattle.line.proofs.Leading.{not-accepted}
-use Rattle.line.proofs.first_of.Statement.{statement}
-use Rattle.line.proofs.first_of.Tie as tie
+use Rattle.line.proofs.write.first_of.Statement.{statement}
+use Rattle.line.proofs.write.first_of.Tie as tie
 
 enum-known-v : tie.Need-enum-known-v
 enum-known-v c = search needs

@@ -4,8 +4,8 @@ use native.Mathlib.Omega.{arith}
 use borrow.Author.Needs.{needs}
 use Rattle.buffer.proofs.Putting.{put-as, fits-as}
 use Rattle.line.proofs.Whole.{line-as, line-room, line-written, line-inside}
-use Rattle.line.proofs.write_line.Statement.{statement}
-use Rattle.line.proofs.write_line.Tie as tie
+use Rattle.line.proofs.write.write_line.Statement.{statement}
+use Rattle.line.proofs.write.write_line.Tie as tie
 
 returns : tie.Need-returns
 returns c = let h = c .if1 .taken in (record { written = λ long. absurd (omega arith); short = λ short. (refl, refl) }, omega arith)
