@@ -190,7 +190,7 @@ static void set_up(const plain_job *j, uint32_t *places, frame *f) {
     }
 }
 
-/* The work at point i, from places that nothing has changed; slot is t mod w of each stream. */
+/* The work at point i, once all has arrived: from what stands in the places of its cell, where the new values then go; slot is t mod w of each stream. */
 static void work(const plain_job *j, const frame *f, const int *slot, int i, const uint32_t *input, uint32_t *values) {
     const spot *p = &f->p[i];
     uint32_t got[4];
@@ -200,13 +200,13 @@ static void work(const plain_job *j, const frame *f, const int *slot, int i, con
             int z = p->x[x] - j->d[s][x];
             inside &= z >= j->low[x] && z <= j->high[x];
         }
-        int y = p->s0 - f->c[s].hop[0], z = p->s1 - f->c[s].hop[1];
-        if (!inside)
-            got[s] = input[s * f->points + i];
-        else
-            got[s] = y < 0 || y >= f->rows || z < 0 || z >= f->columns ? 0 : f->band[s][(y * f->columns + z) * f->c[s].w + slot[s]];
+        got[s] = inside ? f->band[s][f->cell[i] * f->c[s].w + slot[s]] : input[s * f->points + i];
     }
-    for (int s = 0; s < j->m; s++) values[s * f->points + i] = ruled(j->rule[s], got[s], got[j->a[s]], got[j->b[s]]);
+    for (int s = 0; s < j->m; s++) {
+        uint32_t v = ruled(j->rule[s], got[s], got[j->a[s]], got[j->b[s]]);
+        values[s * f->points + i] = v;
+        f->band[s][f->cell[i] * f->c[s].w + slot[s]] = v;
+    }
 }
 
 /* Every cell of a band takes what arrives, at `at` and w places on; the cell is divided into row and column, as ours is. */
@@ -238,35 +238,25 @@ uint64_t plain_run(const plain_job *j, const uint32_t *input, uint32_t *values, 
     set_up(j, places, &f);
     for (int t = 0; t < f.ticks; t++) {
         int slot[4];
-        for (int s = 0; s < j->m; s++) slot[s] = t % f.c[s].w;
+        for (int s = 0; s < j->m; s++) {
+            slot[s] = t % f.c[s].w;
+            shift(&f, &f.c[s], f.band[s] + slot[s]);
+        }
         for (int i = 0; i < f.points; i++)
             if (f.tick[i] == t) work(j, &f, slot, i, input, values);
-        for (int s = 0; s < j->m; s++) {
-            uint32_t *at = f.band[s] + slot[s];
-            shift(&f, &f.c[s], at);
-            for (int i = 0; i < f.points; i++)
-                if (f.tick[i] == t) at[f.cell[i] * f.c[s].w] = values[s * f.points + i];
-        }
     }
     return (uint64_t)f.ticks;
 }
 
 uint64_t quick_run(const plain_job *j, const uint32_t *input, uint32_t *values, uint32_t *places) {
     static frame f;
-    static int now[1024];
     int slot[4] = {0};
     set_up(j, places, &f);
     for (int t = 0; t < f.ticks; t++) {
-        int count = 0;
+        for (int s = 0; s < j->m; s++) quick_shift(&f, &f.c[s], f.band[s] + slot[s]);
         for (int i = 0; i < f.points; i++)
-            if (f.tick[i] == t) now[count++] = i;
-        for (int k = 0; k < count; k++) work(j, &f, slot, now[k], input, values);
-        for (int s = 0; s < j->m; s++) {
-            uint32_t *at = f.band[s] + slot[s];
-            quick_shift(&f, &f.c[s], at);
-            for (int k = 0; k < count; k++) at[f.cell[now[k]] * f.c[s].w] = values[s * f.points + now[k]];
-            slot[s] = slot[s] + 1 == f.c[s].w ? 0 : slot[s] + 1;
-        }
+            if (f.tick[i] == t) work(j, &f, slot, i, input, values);
+        for (int s = 0; s < j->m; s++) slot[s] = slot[s] + 1 == f.c[s].w ? 0 : slot[s] + 1;
     }
     return (uint64_t)f.ticks;
 }

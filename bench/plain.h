@@ -1,7 +1,7 @@
 /*
  * Plain C for the comparison, without any check of the input. All pairs: the conditions as they are stated. Plain: the same steps as
- * ours, with the same tables. Quick: the same method with what else C offers, H and S of a difference by adding, one look through the
- * table of ticks in each tick, and no division in the loops.
+ * ours, with the same tables. Quick: the same method with what else C offers, H and S of a difference by adding, and no division
+ * in the loops.
  */
 #ifndef PLAIN_H
 #define PLAIN_H

@@ -4,7 +4,7 @@ pub mod UniqueTicks
 pub mod UniqueReplies
 pub mod LendingLaws
 pub mod WorkLaws
-pub mod StoreLaws
+pub mod ArrivalLaws
 pub mod PointLaws
 pub mod TickLaws
 pub mod LoopLaws

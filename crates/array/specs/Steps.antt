@@ -8,7 +8,8 @@ use Rattle.job.specs.declared.record.Job.{Job}
 use Rattle.job.specs.Record.{points}
 use Rattle.verdict.specs.Extents.{rectangle, cells, room}
 use Rattle.verdict.specs.Mapping.{hop, w}
-use Rattle.tables.specs.Tables.{entryFor}
+use Rattle.tables.specs.Tables.{entryFor, previous}
+use Rattle.cell.specs.Cells.{work}
 use Rattle.bands.specs.Bands.{at}
 use Rattle.frame.specs.Frames.{tickOf, cellOf, from, inPlace}
 use Rattle.frame.specs.Framing.{Framed}
@@ -33,18 +34,6 @@ pub record BandOf (f : Frame) (s : ℕ) (band : List ℕ) : Type 0 where
 pub record Fronted (j : Job) (table : List ℕ) : Type 0 where
   pub long : points j ≤ length table
 
--- the point at place k is worked if its tick is t; the other columns are as before
-pub record Point (j : Job) (input : List ℕ) (t : ℕ) (places : List ℕ) (k : ℕ) (before after : List ℕ) : Type 0 where
-  pub size : length after ≡ length before
-  pub worked : (s : ℕ) → s < j .m → tickOf j k ≡ t → entryFor j after s k ≡ fresh j input t places s (cellOf j k) k
-  pub spared : (s q : ℕ) → s < j .m → q < points j → (q ≡ k → tickOf j k ≡ t → ⊥) → entryFor j after s q ≡ entryFor j before s q
-
--- the same of the first n points
-pub record Points (j : Job) (input : List ℕ) (t : ℕ) (places : List ℕ) (n : ℕ) (before after : List ℕ) : Type 0 where
-  pub size : length after ≡ length before
-  pub worked : (s k : ℕ) → s < j .m → k < n → tickOf j k ≡ t → entryFor j after s k ≡ fresh j input t places s (cellOf j k) k
-  pub spared : (s k : ℕ) → s < j .m → k < points j → (k < n → tickOf j k ≡ t → ⊥) → entryFor j after s k ≡ entryFor j before s k
-
 -- place slot of the cells of a band is rewritten by f, the other places stay
 pub record Slot (j : Job) (s slot : ℕ) (f : ℕ → ℕ) (before after : List ℕ) : Type 0 where
   pub size : length after ≡ length before
@@ -55,13 +44,37 @@ pub record Slot (j : Job) (s slot : ℕ) (f : ℕ → ℕ) (before after : List 
 abbrev pub inBand : Job → ℕ → ℕ → List ℕ → ℕ → ℕ
 inBand j t s band x = given (backOf (rectangle j) (hop j s) x) 0 (λ (y : ℕ). at (w j s) band y (t % w j s))
 
--- the value of the point worked at x among the first n, or else other
-abbrev pub workedOr : Job → ℕ → ℕ → List ℕ → ℕ → ℕ → ℕ → ℕ
-workedOr j t s values n x other = given (lastOf (works j t x) n) other (λ (k : ℕ). entryFor j values s k)
-
--- the bands of the first n streams are stored
-pub record Stored (j : Job) (t : ℕ) (values : List ℕ) (n : ℕ) (places places′ : List ℕ) : Type 0 where
+-- the bands of the first n streams have taken what arrives
+pub record Arrived (j : Job) (t n : ℕ) (places places′ : List ℕ) : Type 0 where
   pub size : length places′ ≡ length places
-  pub stores : (s x : ℕ) → s < n → x < cells j → inPlace j places′ s x (t % w j s) ≡ workedOr j t s values (points j) x (arrival j t places s x)
+  pub arrives : (s x : ℕ) → s < n → x < cells j → inPlace j places′ s x (t % w j s) ≡ arrival j t places s x
   pub keeps : (s x r : ℕ) → s < n → x < cells j → r < w j s → (r ≡ t % w j s → ⊥) → inPlace j places′ s x r ≡ inPlace j places s x r
   pub beyond : drop (from j n) places′ ≡ drop (from j n) places
+
+-- what the point at place k takes in at cell x: what stands there, or the input
+abbrev pub taken : Job → List ℕ → ℕ → List ℕ → ℕ → ℕ → ℕ → ℕ
+taken j input t places s x k = given (previous j s k) (entryFor j input s k) (λ (q : ℕ). inPlace j places s x (t % w j s))
+
+-- the values of the point at place k stand at cell x on the first n streams; the other places stay
+pub record Put (j : Job) (t : ℕ) (values : List ℕ) (x k n : ℕ) (places places′ : List ℕ) : Type 0 where
+  pub size : length places′ ≡ length places
+  pub stores : (s : ℕ) → s < n → inPlace j places′ s x (t % w j s) ≡ entryFor j values s k
+  pub keeps : (s y r : ℕ) → s < j .m → y < cells j → r < w j s → (s < n → y ≡ x → r ≡ t % w j s → ⊥) → inPlace j places′ s y r ≡ inPlace j places s y r
+  pub beyond : drop (room j) places′ ≡ drop (room j) places
+
+-- the point at place k is worked from what it takes in, and its values stand at its cell
+pub record Point (j : Job) (input : List ℕ) (t k : ℕ) (places values places′ values′ : List ℕ) : Type 0 where
+  pub length-values : length values′ ≡ length values
+  pub worked : (s : ℕ) → s < j .m → entryFor j values′ s k ≡ work j s (λ (u : ℕ). taken j input t places u (cellOf j k) k)
+  pub spared : (s q : ℕ) → s < j .m → q < points j → (q ≡ k → ⊥) → entryFor j values′ s q ≡ entryFor j values s q
+  pub put : Put j t values′ (cellOf j k) k (j .m) places places′
+
+-- of the first n points those of tick t are worked, from places and values before the tick
+pub record Points (j : Job) (input : List ℕ) (t n : ℕ) (places values places′ values′ : List ℕ) : Type 0 where
+  pub length-places : length places′ ≡ length places
+  pub length-values : length values′ ≡ length values
+  pub worked : (s k : ℕ) → s < j .m → k < n → tickOf j k ≡ t → entryFor j values′ s k ≡ fresh j input t places s (cellOf j k) k
+  pub spared : (s k : ℕ) → s < j .m → k < points j → (k < n → tickOf j k ≡ t → ⊥) → entryFor j values′ s k ≡ entryFor j values s k
+  pub stores : (s x : ℕ) → s < j .m → x < cells j → inPlace j places′ s x (t % w j s) ≡ given (lastOf (works j t x) n) (arrival j t places s x) (λ (k : ℕ). fresh j input t places s x k)
+  pub keeps : (s x r : ℕ) → s < j .m → x < cells j → r < w j s → (r ≡ t % w j s → ⊥) → inPlace j places′ s x r ≡ inPlace j places s x r
+  pub beyond : drop (room j) places′ ≡ drop (room j) places

@@ -2,12 +2,12 @@
 
 // A run of all ticks, and a single tick.
 pub mod run;
-// One tick: the work, then the storing.
+// One tick: the arrivals, then the work.
 pub mod tick;
-// The work of a tick, from places that nothing has changed yet.
+// The arrivals of a tick, each stream's band lent on by itself.
+mod arrive;
+// The work of a tick, and the storing of its values.
 mod work;
-// The storing of a tick, each stream's band lent on by itself.
-mod store;
 // The plain loop nest.
 pub mod loops;
 // The point worked in a tick at a cell.

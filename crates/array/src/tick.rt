@@ -4,7 +4,7 @@ ghost use Rattle.frame.specs.Framing.{Timed};
 ghost use Rattle.array.specs.Ticks.{Ticked};
 ghost use Rattle.array.specs.Steps.{Tabled, Roomy};
 
-// One tick: all arrivals are read, and the values of its points worked, before any place is written.
+// One tick: every cell takes its arrivals, each read before its place is rewritten; then the points are worked.
 pub fn one_tick(
     f: Frame,
     timetable: &[u64],
@@ -16,6 +16,6 @@ pub fn one_tick(
     requires { ⌜ Tabled f (now input) × Tabled f (now values) × Roomy f (now places) × Timed f (now timetable) ⌝ }
     ensures { λ _. ⌜ Ticked (f .job) (now (input .entry)) t (now (places .entry)) (now (values .entry)) (now (places .exit)) (now (values .exit)) ⌝ }
 {
-    crate::work::work(f, timetable, t, input, &mut values[..], &places[..]);
-    crate::store::store(f, timetable, t, &values[..], &mut places[..]);
+    crate::arrive::arrive(f, t, &mut places[..]);
+    crate::work::work(f, timetable, t, input, &mut values[..], &mut places[..]);
 }

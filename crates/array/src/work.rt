@@ -1,43 +1,42 @@
-// The work of a tick: the values of its points, from places that nothing has changed yet.
+// The work of a tick, once all has arrived: each of its points takes what stands in the places of its cell, is worked, and stores its new values there.
 use frame::Frame;
 use frame::Spot;
 use space::boxes::Found;
 ghost use mathlib.Core.Path.{_≡_};
-ghost use Prim.Native.Nat.{ℕ, _<_};
-ghost use lib.ListN.{getD};
+ghost use mathlib.Core.List.{List};
+ghost use Prim.Native.Nat.{ℕ, _+_, _*_, _%_, _<_};
+ghost use lib.ListN.{length, getD, set};
 ghost use Rattle.job.specs.Record.{points as pointsOf};
-ghost use Rattle.frame.specs.Frames.{tickOf};
 ghost use Rattle.verdict.specs.Extents.{cells};
+ghost use Rattle.verdict.specs.Mapping.{w};
+ghost use Rattle.frame.specs.Frames.{tickOf, inPlace};
 ghost use Rattle.frame.specs.Framing.{Framed, Stands, Timed};
-ghost use Rattle.array.specs.Ticks.{arrival, incoming};
-ghost use Rattle.array.specs.Steps.{Tabled, Roomy, Point, Points};
+ghost use Rattle.array.specs.Steps.{Tabled, Roomy, Arrived, taken, Put, Point, Points};
 
-// What arrives on stream s at cell x.
-fn arriving_at(f: Frame, t: u64, places: &[u32], s: u8, x: u64) -> u32
+// What stands on stream s in place t mod w of cell x.
+fn standing_at(f: Frame, t: u64, places: &[u32], s: u8, x: u64) -> u32
     requires { ⌜ Framed f × Roomy f (now places) × (s < f .job .m) × (x < cells (f .job)) ⌝ }
-    ensures { λ r. ⌜ r ≡ arrival (f .job) t (now (places .entry)) s x ⌝ }
+    ensures { λ r. ⌜ r ≡ inPlace (f .job) (now (places .entry)) s x (t % w (f .job) s) ⌝ }
 {
     let b = frame::band_at(f.bands, s);
-    let from = b.from as usize;
-    let end = from + (f.cells * b.w) as usize;
-    bands::arriving(&places[from..end], f.rectangle, b, t % b.w, x)
+    let i = (b.from + (x * b.w + t % b.w)) as usize;
+    places[i]
 }
 
-// What comes in on every stream at a spot: what arrives, or the input where there is no point before.
+// What comes in on every stream at a spot: what stands in its cell, or the input where there is no point before.
 fn incoming_all(f: Frame, t: u64, input: &[u32], places: &[u32], spot: Spot) -> [u32; 4]
     requires { ⌜ Tabled f (now input) × Roomy f (now places) × Stands f spot ⌝ }
-    ensures { λ r. ⌜ ((s : ℕ) → s < f .job .m → getD r s 0 ≡ incoming (f .job) (now (input .entry)) t (now (places .entry)) s (spot .cell) (spot .place)) ⌝ }
+    ensures { λ r. ⌜ ((s : ℕ) → s < f .job .m → getD r s 0 ≡ taken (f .job) (now (input .entry)) t (now (places .entry)) s (spot .cell) (spot .place)) ⌝ }
 {
-    let j = f.job;
-    let m = j.m;
+    let m = f.job.m;
     let mut got = [0u32; 4];
     let mut s: u8 = 0;
     while s < m {
         let i = s as usize;
-        let found = tables::table::previous_at(j, s, spot.point);
+        let found = tables::table::previous_at(f.job, s, spot.point);
         match found {
             Found::At(_q) => {
-                got[i] = arriving_at(f, t, places, s, spot.cell);
+                got[i] = standing_at(f, t, places, s, spot.cell);
             }
             Found::Nowhere => {
                 let from = tables::table::place_in_table(s, f.points, spot.place);
@@ -49,27 +48,62 @@ fn incoming_all(f: Frame, t: u64, input: &[u32], places: &[u32], spot: Spot) -> 
     got
 }
 
-// The point at place k, worked in its tick t.
-fn work_column(f: Frame, t: u64, input: &[u32], values: &mut [u32], places: &[u32], k: u64)
-    requires { ⌜ Tabled f (now input) × Tabled f (now values) × Roomy f (now places) × (k < pointsOf (f .job)) × (tickOf (f .job) k ≡ t) ⌝ }
-    ensures { λ _. ⌜ Point (f .job) (now (input .entry)) t (now (places .entry)) k (now (values .entry)) (now (values .exit)) ⌝ }
+// v goes to place slot of cell x, in a band of n places a cell.
+fn put_value(band: &mut [u32], n: u64, slot: u64, x: u64, v: u32)
+    requires { ⌜ x * n + slot < length (now band) ⌝ }
+    ensures { λ _. ⌜ now (band .exit) ≡ set (now (band .entry)) (x * n + slot) v ⌝ }
 {
-    let spot = frame::spot_at(f, k);
-    let got = incoming_all(f, t, input, places, spot);
-    tables::table::put_column(f.job, &mut values[..], f.points, k, got);
+    let i = (x * n + slot) as usize;
+    band[i] = v;
 }
 
-// All points of tick t.
-pub fn work(f: Frame, timetable: &[u64], t: u64, input: &[u32], values: &mut [u32], places: &[u32])
+// The values at a spot go to its cell, each stream's band lent on by itself.
+fn put_values(f: Frame, t: u64, values: &[u32], places: &mut [u32], spot: Spot)
+    requires { ⌜ Tabled f (now values) × Roomy f (now places) × Stands f spot ⌝ }
+    ensures { λ _. ⌜ Put (f .job) t (now (values .entry)) (spot .cell) (spot .place) (f .job .m) (now (places .entry)) (now (places .exit)) ⌝ }
+{
+    let m = f.job.m;
+    let mut s: u8 = 0;
+    while s < m {
+        let b = frame::band_at(f.bands, s);
+        let from = b.from as usize;
+        let end = from + (f.cells * b.w) as usize;
+        let i = tables::table::place_in_table(s, f.points, spot.place);
+        let v = values[i];
+        put_value(&mut places[from..end], b.w, t % b.w, spot.cell, v);
+        s += 1;
+    }
+}
+
+// The point at place k, worked in its tick t.
+fn work_point(f: Frame, t: u64, input: &[u32], values: &mut [u32], places: &mut [u32], k: u64)
+    requires { ⌜ Tabled f (now input) × Tabled f (now values) × Roomy f (now places) × (k < pointsOf (f .job)) ⌝ }
+    ensures { λ _. ⌜ Point (f .job) (now (input .entry)) t k (now (places .entry)) (now (values .entry)) (now (places .exit)) (now (values .exit)) ⌝ }
+{
+    let spot = frame::spot_at(f, k);
+    let got = incoming_all(f, t, input, &places[..], spot);
+    tables::table::put_column(f.job, &mut values[..], f.points, k, got);
+    put_values(f, t, &values[..], &mut places[..], spot);
+}
+
+// All points of tick t, in places where all has arrived.
+pub fn work(
+    f: Frame,
+    timetable: &[u64],
+    t: u64,
+    input: &[u32],
+    values: &mut [u32],
+    places: &mut [u32],
+)
     requires { ⌜ Tabled f (now input) × Tabled f (now values) × Roomy f (now places) × Timed f (now timetable) ⌝ }
-    ensures { λ _. ⌜ Points (f .job) (now (input .entry)) t (now (places .entry)) (pointsOf (f .job)) (now (values .entry)) (now (values .exit)) ⌝ }
+    ensures { λ _. ⌜ ((before : List ℕ) → Arrived (f .job) t (f .job .m) before (now (places .entry)) → Points (f .job) (now (input .entry)) t (pointsOf (f .job)) before (now (values .entry)) (now (places .exit)) (now (values .exit))) ⌝ }
 {
     let points = f.points;
     let mut k: u64 = 0;
     while k < points {
         let i = k as usize;
         if timetable[i] == t {
-            work_column(f, t, input, &mut values[..], places, k);
+            work_point(f, t, input, &mut values[..], &mut places[..], k);
         }
         k += 1;
     }

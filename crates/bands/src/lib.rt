@@ -75,7 +75,7 @@ fn turn(falls: bool, cells: u64, k: u64) -> u64
 }
 
 // What arrives at cell x, read from place slot one hop back.
-pub fn arriving(places: &[u32], r: Rectangle, b: Band, slot: u64, x: u64) -> u32
+fn arriving(places: &[u32], r: Rectangle, b: Band, slot: u64, x: u64) -> u32
     requires { ⌜ Lent r b slot (now places) × (x < countOf (rectangleOf r)) ⌝ }
     ensures { λ v. ⌜ v ≡ arrivalIn r b slot (now (places .entry)) x ⌝ }
 {

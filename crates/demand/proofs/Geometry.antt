@@ -25,7 +25,7 @@ use Rattle.verdict.proofs.Courses.{stationary-none, hops-moving, place-whole}
 use Rattle.tables.specs.Tables.{previous}
 use Rattle.verdict.specs.Extents.{rectangle, clock}
 use Rattle.frame.specs.Frames.{tickOf, cellOf}
-use Rattle.frame.proofs.FrameLaws.{between, in-rectangle}
+use Rattle.frame.proofs.FrameLaws.{in-rectangle, time-is as time, one-point as apart}
 use Rattle.demand.proofs.Lines.{line-start, line-back, line-behind, minus-back}
 use Rattle.demand.proofs.Obeys.{HopsApart, Obeys}
 use Rattle.demand.proofs.Rules.{delay-is, time-whole, delay-low}
@@ -58,8 +58,7 @@ module _ (j : Job) (rules : Obeys j) where
 
   -- Hk is the least H and the tick
   time-is : (k : ℕ) → k < points j → H j (point j k) ≡ clock j .low +ℤ pos (tickOf j k)
-  unfolding tickOf
-  time-is k lk = sym (steps-back (clock j .low) (H j (point j k)) (between j (rules .limits) (entries (j .time)) refl (point j k) (point-inside k lk) .0))
+  time-is = time j (rules .limits)
 
   -- its place is in the rectangle
   cell-inside : (k : ℕ) → k < points j → In (rectangle j) (S j (point j k))
@@ -67,19 +66,7 @@ module _ (j : Job) (rules : Obeys j) where
 
   -- the cell rule: a tick and a cell have one point
   pub one-point : (i k : ℕ) → i < points j → k < points j → tickOf j i ≡ tickOf j k → cellOf j i ≡ cellOf j k → i ≡ k
-  unfolding cellOf
-  one-point i k li lk et ec = by (before-total (point j i) (point j k) (point-length i li ∙ sym (point-length k lk)))
-    where
-      time : H j (point j i) ≡ H j (point j k)
-      time = time-is i li ∙ ap (λ (t : ℕ). clock j .low +ℤ pos t) et ∙ sym (time-is k lk)
-
-      place : S j (point j i) ≡ S j (point j k)
-      place = place-injective (rectangle j) (S j (point j i)) (S j (point j k)) (cell-inside i li) (cell-inside k lk) ec
-
-      by : Before (point j i) (point j k) ⊎ ((point j i ≡ point j k) ⊎ Before (point j k) (point j i)) → i ≡ k
-      by (inl b) = absurd (rules .cell (point j i) (point j k) (record { first = point-inside i li; second = point-inside k lk; order = b }) time place)
-      by (inr (inl e)) = sym (place-point (box j) i li) ∙ ap (placeOf (box j)) e ∙ place-point (box j) k lk
-      by (inr (inr b)) = absurd (rules .cell (point j k) (point j i) (record { first = point-inside k lk; second = point-inside i li; order = b }) (sym time) (sym place))
+  one-point = apart j (rules .limits) (λ p q h. rules .cell p q (h .pair) (h .time) (h .place))
 
   module _ (s : ℕ) (ls : s < j .m) where
     -- no hop leads to the cell itself

@@ -1,20 +1,23 @@
--- Laws of the frame: every point has its tick below the tick count and its cell in the rectangle, the rectangle is small, and a timetable is written tick by tick and in one way.
-use mathlib.Core.Path.{_≡_, refl, sym, subst, _∙_}
+-- Laws of the frame: every point has its tick below the tick count and its cell in the rectangle, no two have both the same, the rectangle is small, and a timetable is written tick by tick and in one way.
+use mathlib.Core.Path.{_≡_, refl, sym, ap, subst, _∙_}
+use mathlib.Core.Logic.{_⊎_, inl, inr}
 use mathlib.Core.List.{List}
 use Prim.Native.Nat.{ℕ, _+_, _<_, _≤_}
 use native.Mathlib.Decide.{decLe}
 use native.Mathlib.Omega.{arith}
 use lib.ListN.{length, getD, set, length-set}
 use lib.Seq.{getD-set-same, getD-set-other, ext-getD}
-use lib.IntN.{ℤ}
+use lib.IntN.{ℤ, pos, _+ℤ_}
 use lib.Signed.{_≤ℤ_}
 use borrow.Author.Count.{below-more}
 use Rattle.space.specs.Numbers.{Size, limit, entry}
 use Rattle.space.specs.Vectors.{entries, dotOf, Sized}
-use Rattle.space.specs.Boxes.{In, Solid, pointOf, leastOf, greatestOf, Least, Greatest}
+use Rattle.space.specs.Order.{Before}
+use Rattle.space.specs.Boxes.{In, Solid, placeOf, pointOf, leastOf, greatestOf, Least, Greatest}
 use Rattle.space.proofs.Ints.{size-up}
 use Rattle.space.proofs.Machine.{held, held-as}
-use Rattle.space.proofs.BoxLaws.{SidesSized, in-solid, solid-in, point-in, place-below, steps-below}
+use Rattle.space.proofs.OrderLaws.{before-total}
+use Rattle.space.proofs.BoxLaws.{SidesSized, in-solid, solid-in, in-length, point-in, place-point, place-injective, place-below, steps-below, steps-back}
 use Rattle.space.proofs.ExtremeLaws.{least-is, greatest-is}
 use Rattle.space.proofs.VectorLaws.{sized-up, dot-size}
 use Rattle.job.specs.declared.record.Job.{Job}
@@ -22,11 +25,12 @@ use Rattle.job.specs.Limits.{Acceptable}
 use Rattle.job.specs.Record.{box, points}
 use Rattle.job.proofs.Accepting.{solid, row0-sized, row1-sized, in-box-sized}
 use Rattle.verdict.specs.Mapping.{H, S}
+use Rattle.verdict.specs.Rules.{SameCell}
 use Rattle.verdict.specs.Extents.{rectangle, cells, clock, ticks}
 use Rattle.verdict.specs.Verdicts.{Says}
 use Rattle.verdict.specs.declared.judge.Extent.{Extent}
 use Rattle.verdict.specs.declared.judge.Verdict.the-variants.{Accepted}
-use Rattle.verdict.proofs.Accepted.{accepted-ahead, accepted-even}
+use Rattle.verdict.proofs.Accepted.{accepted-ahead, accepted-even, accepted-cells}
 use Rattle.verdict.proofs.SizeLaws.{small-ends}
 use Rattle.bands.specs.Bands.{Flat}
 use Rattle.frame.specs.Frames.{tickOf, cellOf}
@@ -35,7 +39,7 @@ use Rattle.frame.specs.declared.Frame.{Frame}
 
 -- an accepted job may run
 pub accepted-runs : {j : Job} {z : Extent} → Says j (Accepted z) → Runnable j
-accepted-runs s = let a = accepted-ahead s in record { acceptable = a .0; ahead = a .1; even = accepted-even s }
+accepted-runs s = let a = accepted-ahead s in record { acceptable = a .0; ahead = a .1; even = accepted-even s; apart = accepted-cells s }
 
 -- a small number that is read back fits where the code steps from one to the other
 pub fits-limit : {z v : ℤ} → v ≡ z → Size 8376324 z → Size limit (held v)
@@ -70,6 +74,33 @@ module _ (j : Job) (a : Acceptable j) where
   tick-below k lk =
       let q = between (entries (j .time)) refl (pointOf (box j) k) (point-in (box j) k lk) in
       steps-below (clock j .low) (H j (pointOf (box j) k)) (clock j .high) (q .0) (q .1)
+
+  -- Hk is the least H and the tick
+  pub time-is : (k : ℕ) → k < points j → H j (pointOf (box j) k) ≡ clock j .low +ℤ pos (tickOf j k)
+  unfolding tickOf
+  time-is k lk = sym (steps-back (clock j .low) (H j (pointOf (box j) k)) (between (entries (j .time)) refl (pointOf (box j) k) (point-in (box j) k lk) .0))
+
+  -- the cell rule: a tick and a cell have one point
+  pub one-point : ((p q : List ℤ) → SameCell j p q → ⊥) → (i k : ℕ) → i < points j → k < points j → tickOf j i ≡ tickOf j k → cellOf j i ≡ cellOf j k → i ≡ k
+  unfolding cellOf
+  one-point rule i k li lk et ec = by (before-total (point i) (point k) (in-length (box j) (point i) (inside i li) ∙ sym (in-length (box j) (point k) (inside k lk))))
+    where
+      point : ℕ → List ℤ
+      point n = pointOf (box j) n
+
+      inside : (n : ℕ) → n < points j → In (box j) (point n)
+      inside n ln = point-in (box j) n ln
+
+      time : H j (point i) ≡ H j (point k)
+      time = time-is i li ∙ ap (λ (t : ℕ). clock j .low +ℤ pos t) et ∙ sym (time-is k lk)
+
+      place : S j (point i) ≡ S j (point k)
+      place = place-injective (rectangle j) (S j (point i)) (S j (point k)) (in-rectangle (point i) (inside i li)) (in-rectangle (point k) (inside k lk)) ec
+
+      by : Before (point i) (point k) ⊎ ((point i ≡ point k) ⊎ Before (point k) (point i)) → i ≡ k
+      by (inl b) = absurd (rule (point i) (point k) (record { pair = record { first = inside i li; second = inside k lk; order = b }; time = time; place = place }))
+      by (inr (inl e)) = sym (place-point (box j) i li) ∙ ap (placeOf (box j)) e ∙ place-point (box j) k lk
+      by (inr (inr b)) = absurd (rule (point k) (point i) (record { pair = record { first = inside k lk; second = inside i li; order = b }; time = sym time; place = sym place }))
 
   -- the rectangle has two ends in each direction
   rectangle-solid : Solid (rectangle j)

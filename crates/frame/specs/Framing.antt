@@ -3,13 +3,14 @@ use mathlib.Core.Path.{_≡_}
 use mathlib.Core.List.{List, [], _∷_}
 use Prim.Native.Nat.{ℕ, _<_, _≤_}
 use lib.ListN.{length, getD}
+use lib.IntN.{ℤ}
 use Rattle.space.specs.Vectors.{entries}
 use Rattle.space.specs.Boxes.{pointOf}
 use Rattle.job.specs.declared.record.Job.{Job}
 use Rattle.job.specs.Limits.{Acceptable}
 use Rattle.job.specs.Record.{box, points}
 use Rattle.verdict.specs.Mapping.{hop, w}
-use Rattle.verdict.specs.Rules.{Ahead, Even, All}
+use Rattle.verdict.specs.Rules.{Ahead, Even, SameCell, All}
 use Rattle.verdict.specs.Extents.{rectangle, cells, clock}
 use Rattle.bands.specs.Bands.{rectangleOf, hopOf}
 use Rattle.bands.specs.declared.Band.{Band}
@@ -18,11 +19,12 @@ use Rattle.frame.specs.declared.Frame.{Frame}
 use Rattle.frame.specs.declared.Bands.{Bands}
 use Rattle.frame.specs.declared.Spot.{Spot}
 
--- what a job that may run has: it keeps the limits, precedence and hop
+-- what a job that may run has: it keeps the limits, precedence, hop and cell
 pub record Runnable (j : Job) : Type 0 where
   pub acceptable : Acceptable j
   pub ahead : All Ahead j
   pub even : All Even j
+  pub apart : (p q : List ℤ) → SameCell j p q → ⊥
 
 -- b is the band of stream s
 pub record Banded (j : Job) (s : ℕ) (b : Band) : Type 0 where

@@ -14,16 +14,16 @@ use Rattle.job.specs.Record.{points}
 use Rattle.tables.specs.Tables.{previous}
 use Rattle.tables.proofs.TableLaws.{few-streams, few-points, entry-in, place-as, Firsts, firsts-step}
 use Rattle.frame.proofs.FrameLaws.{cell-below}
-use Rattle.array.specs.Ticks.{incoming}
-use Rattle.array.proofs.WorkLaws.{incoming-some, incoming-none}
+use Rattle.array.specs.Steps.{taken}
+use Rattle.array.proofs.WorkLaws.{taken-some, taken-none}
 use Rattle.array.proofs.work.incoming_all.Statement.{statement}
 use Rattle.array.proofs.work.incoming_all.Tie as tie
 
 abbrev Inv-loop : tie.InvT-loop
-Inv-loop f t input places spot j m got₀ s₀ got s = Firsts (λ (u : ℕ). incoming (f .job) input t places u (spot .cell) (spot .place)) got s
+Inv-loop f t input places spot m got₀ s₀ got s = Firsts (λ (u : ℕ). taken (f .job) input t places u (spot .cell) (spot .place)) got s
 
 abbrev μ-loop : tie.MeasureT-loop
-μ-loop f t input places spot j m got₀ s₀ got s = m - s
+μ-loop f t input places spot m got₀ s₀ got s = m - s
 
 loop-holds : tie.Need-loop-holds Inv-loop μ-loop
 loop-holds c = record { four = refl; done = λ u lu. absurd (omega arith) }
@@ -31,7 +31,7 @@ loop-holds c = record { four = refl; done = λ u lu. absurd (omega arith) }
 -- a stream below m
 module _ (c : tie.In-loop Inv-loop μ-loop) where
   abbrev start : tie.Start Inv-loop μ-loop
-  start = let copied = c .before .before in copied .before .before .before
+  start = let copied = c .before .before in copied .before .before
 
   abbrev s : ℕ
   s = c .before .loop .s
@@ -50,8 +50,8 @@ previous-at-requires c κs =
 enum-known-found : tie.Need-enum-known-found Inv-loop μ-loop
 enum-known-found c = search needs
 
-arriving-at-requires : tie.Need-arriving-at-requires Inv-loop μ-loop
-arriving-at-requires c κs =
+standing-at-requires : tie.Need-standing-at-requires Inv-loop μ-loop
+standing-at-requires c κs =
     let asked = c .before .before .before in
     let at = asked .before in
     let q = start at .pre in
@@ -122,10 +122,10 @@ loop-again c =
     let a = start at .args in
     let l = at .before .loop in
     ⊎-elim
-    (λ y. one-more (l .inv) (small at) (y .4) (y .3 .ensures ∙ incoming-some (a .f .job) (now (a .input)) (a .t) (now (a .places)) (s at) (a .spot .cell) (a .spot .place) _ (found (c .before) (ap foundOf (y .1 .given .1)))))
+    (λ y. one-more (l .inv) (small at) (y .4) (y .3 .ensures ∙ taken-some (a .f .job) (now (a .input)) (a .t) (now (a .places)) (s at) (a .spot .cell) (a .spot .place) _ (found (c .before) (ap foundOf (y .1 .given .1)))))
     (λ n.
     let read : tie.After-place-in-table Inv-loop μ-loop = record { before = record { before = record { before = c .before; match = n .0 }; enum-told = n .1 }; place-in-table = n .2 } in
-    one-more (l .inv) (small at) (n .4) (ap (λ (i : ℕ). getD (now (a .input)) i 0) (there read) ∙ incoming-none (a .f .job) (now (a .input)) (a .t) (now (a .places)) (s at) (a .spot .cell) (a .spot .place) (found (c .before) (ap foundOf (n .1 .given .1)))))
+    one-more (l .inv) (small at) (n .4) (ap (λ (i : ℕ). getD (now (a .input)) i 0) (there read) ∙ taken-none (a .f .job) (now (a .input)) (a .t) (now (a .places)) (s at) (a .spot .cell) (a .spot .place) (found (c .before) (ap foundOf (n .1 .given .1)))))
     (c .match .came)
 
 returns : tie.Need-returns Inv-loop μ-loop
@@ -134,4 +134,4 @@ returns c = λ s ls. c .before .loop .inv .done s (omega (arith, c .loop-test .l
 pub incoming-all-spec : {M : Type 1} → statement M
 incoming-all-spec =
     tie.close
-    (tie.spec Inv-loop μ-loop loop-holds cast-i previous-at-requires enum-known-found arriving-at-requires mul-got array-write-got enum-told place-in-table-requires mul-got-2 shared-slice-read-got mul-got-3 array-write-got-2 add-s loop-less loop-again returns)
+    (tie.spec Inv-loop μ-loop loop-holds cast-i previous-at-requires enum-known-found standing-at-requires mul-got array-write-got enum-told place-in-table-requires mul-got-2 shared-slice-read-got mul-got-3 array-write-got-2 add-s loop-less loop-again returns)

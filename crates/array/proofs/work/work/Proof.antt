@@ -1,24 +1,24 @@
--- The first k points are done. The measure is what is left of the points.
-use mathlib.Core.Path.{sym, subst, _∙_}
+-- The first k points are done, whatever the places were from which all has arrived. The measure is what is left of the points.
+use mathlib.Core.Path.{sym, _∙_}
 use mathlib.Core.Logic.{⊎-elim}
 use Prim.Native.Nat.{ℕ, _+_, _-_, _<_, _≤_}
 use native.Mathlib.Omega.{arith}
 use denote.Ref.{now}
 use Rattle.tables.proofs.TableLaws.{few-points}
 use Rattle.job.specs.Record.{points as pointsOf}
-use Rattle.array.specs.Steps.{Points}
-use Rattle.array.proofs.WorkLaws.{points-start, points-step, points-idle, points-end}
+use Rattle.array.proofs.LendingLaws.{roomy-as}
+use Rattle.array.proofs.TickLaws.{Working, working-start, working-idle, working-step, working-as, working-end}
 use Rattle.array.proofs.work.work.Statement.{statement}
 use Rattle.array.proofs.work.work.Tie as tie
 
 abbrev Inv-loop : tie.InvT-loop
-Inv-loop f timetable t input values₀ places points k₀ values k = (k ≤ points) × Points (f .job) input t places k values₀ values
+Inv-loop f timetable t input values₀ places₀ points k₀ values places k = Working (f .job) input t places₀ values₀ k places values × (k ≤ points)
 
 abbrev μ-loop : tie.MeasureT-loop
-μ-loop f timetable t input values₀ places points k₀ values k = points - k
+μ-loop f timetable t input values₀ places₀ points k₀ values places k = points - k
 
 loop-holds : tie.Need-loop-holds Inv-loop μ-loop
-loop-holds c = let a = c .before .before .before .before .args in (omega arith, points-start (now (a .values)))
+loop-holds c = (working-start, omega arith)
 
 -- the point at place k
 module _ (c : tie.In-loop Inv-loop μ-loop) where
@@ -40,11 +40,12 @@ mul-if1 c = omega (arith, few c)
 shared-slice-read-if1 : tie.Need-shared-slice-read-if1 Inv-loop μ-loop
 shared-slice-read-if1 c = omega (arith, low (c .before), start (c .before) .pre .3 .size)
 
-work-column-requires : tie.Need-work-column-requires Inv-loop μ-loop
-work-column-requires c κs =
-    let at = c .before .before .before in
+work-point-requires : tie.Need-work-point-requires Inv-loop μ-loop
+work-point-requires c κs =
+    let at = c .before .before .before .before in
     let q = start at .pre in
-    (q .0, record { framed = q .1 .framed; size = at .before .loop .inv .1 .size ∙ q .1 .size }, q .2, low at, sym (q .3 .ticks (k at) (low at)) ∙ c .before .if1 .taken)
+    let done = at .before .loop .inv .0 in
+    (q .0, record { framed = q .1 .framed; size = done .length-values ∙ q .1 .size }, roomy-as (q .2) (done .length-places), low at)
 
 add-k : tie.Need-add-k Inv-loop μ-loop
 add-k c = omega (arith, few (c .before .before))
@@ -55,24 +56,28 @@ loop-less c = omega (arith, c .before .before .loop-test .taken)
 loop-again : tie.Need-loop-again Inv-loop μ-loop
 loop-again c =
     let at = c .before .before in
-    let a = start at .args in
-    let done = at .before .loop .inv .1 in (
-      omega (arith, at .loop-test .taken),
+    let q = start at .pre in
+    let done = at .before .loop .inv .0 in
+    let tick = q .3 .ticks (k at) (low at) in (
       ⊎-elim
-          (λ y. subst (Points (a .f .job) (now (a .input)) (a .t) (now (a .places)) (k at + 1) (now (a .values))) (sym (y .5)) (points-step (low at) done (y .2 .ensures)))
-          (λ n. subst (Points (a .f .job) (now (a .input)) (a .t) (now (a .places)) (k at + 1) (now (a .values))) (sym (n .1)) (points-idle (low at) (λ e. n .0 .left (start at .pre .3 .ticks (k at) (low at) ∙ e)) done))
+          (λ y. working-as (y .9) (y .8) (working-step (q .0 .framed .runnable) (low at) (sym tick ∙ y .0 .taken) done (y .3 .ensures)))
+          (λ n. working-as (n .2) (n .1) (working-idle (λ e. n .0 .left (tick ∙ e)) done))
           (c .if1 .came),
+      omega (arith, at .loop-test .taken),
     )
 
 same-length : tie.Need-same-length Inv-loop μ-loop
-same-length c = c .before .loop .inv .1 .size
+same-length c = c .before .loop .inv .0 .length-values
+
+same-length-2 : tie.Need-same-length-2 Inv-loop μ-loop
+same-length-2 c = c .before .loop .inv .0 .length-places
 
 returns : tie.Need-returns Inv-loop μ-loop
 returns c =
     let l = c .before .loop in
     let way = c .before .before in
     let s = way .before .before .before .before in
-    points-end (omega (arith, c .loop-test .left, l .inv .0, s .pre .0 .framed .points)) (l .inv .1)
+    working-end (omega (arith, c .loop-test .left, l .inv .1, s .pre .0 .framed .points)) (l .inv .0)
 
 pub work-spec : {M : Type 1} → statement M
-work-spec = tie.close (tie.spec Inv-loop μ-loop loop-holds mul-if1 shared-slice-read-if1 work-column-requires add-k loop-less loop-again same-length returns)
+work-spec = tie.close (tie.spec Inv-loop μ-loop loop-holds mul-if1 shared-slice-read-if1 work-point-requires add-k loop-less loop-again same-length same-length-2 returns)
