@@ -85,6 +85,13 @@ module _ {f : Frame} (F : Framed f) {s : ℕ} (h : s < f .job .m) {b : Band} (B 
   pub in-room : (places : List ℕ) (x r : ℕ) → x < cells (f .job) → r < w (f .job) s → at (w (f .job) s) (part (b .from) (f .cells * b .w) places) x r ≡ inPlace (f .job) places s x r
   in-room places x r lx lr = part-at places (b .from) (f .cells * b .w) (x * w (f .job) s + r) (omega (arith, digits-lt lx lr, size-is)) ∙ ap (λ (i : ℕ). getD places (i + (x * w (f .job) s + r)) 0) (B .begin)
 
+  -- place t mod w of cell x, in the room
+  pub place-is : (t x : ℕ) → b .from + (x * b .w + t % b .w) ≡ from (f .job) s + (x * w (f .job) s + t % w (f .job) s)
+  place-is t x = ap₂ _+_ (B .begin) (ap (λ (n : ℕ). x * n + t % n) (B .delay))
+
+  pub place-in : {places : List ℕ} → Roomy f places → (t x : ℕ) → x < cells (f .job) → b .from + (x * b .w + t % b .w) < length places
+  place-in r t x lx = omega (arith, place-is t x, digits-lt lx (mod-lt t (delay-some (F .runnable) h)), band-in (F .runnable) h, r .enough)
+
   -- so what arrives in it is the arrival
   pub arrives-there : (places : List ℕ) (t x : ℕ) → inBand (f .job) t s (part (b .from) (f .cells * b .w) places) x ≡ arrival (f .job) t places s x
   unfolding arrival

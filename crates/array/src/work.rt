@@ -1,4 +1,5 @@
 // The work of a tick, once all has arrived: each of its points takes what stands in the places of its cell, is worked, and stores its new values there.
+use bands::Band;
 use frame::Frame;
 use frame::Spot;
 use space::boxes::Found;
@@ -13,12 +14,11 @@ ghost use Rattle.frame.specs.Frames.{tickOf, inPlace};
 ghost use Rattle.frame.specs.Framing.{Framed, Stands, Timed};
 ghost use Rattle.array.specs.Steps.{Tabled, Roomy, Arrived, taken, Put, Point, Points};
 
-// What stands on stream s in place t mod w of cell x.
-fn standing_at(f: Frame, t: u64, places: &[u32], s: u8, x: u64) -> u32
-    requires { ⌜ Framed f × Roomy f (now places) × (s < f .job .m) × (x < cells (f .job)) ⌝ }
-    ensures { λ r. ⌜ r ≡ inPlace (f .job) (now (places .entry)) s x (t % w (f .job) s) ⌝ }
+// What stands in place t mod w of cell x, in a stream's band.
+fn standing_at(places: &[u32], b: Band, t: u64, x: u64) -> u32
+    requires { ⌜ (0 < b .w) × (b .from + (x * b .w + t % b .w) < length (now places)) ⌝ }
+    ensures { λ r. ⌜ r ≡ getD (now (places .entry)) (b .from + (x * b .w + t % b .w)) 0 ⌝ }
 {
-    let b = frame::band_at(f.bands, s);
     let i = (b.from + (x * b.w + t % b.w)) as usize;
     places[i]
 }
@@ -36,7 +36,8 @@ fn incoming_all(f: Frame, t: u64, input: &[u32], places: &[u32], spot: Spot) -> 
         let found = tables::table::previous_at(f.job, s, spot.point);
         match found {
             Found::At(_q) => {
-                got[i] = standing_at(f, t, places, s, spot.cell);
+                let b = frame::band_at(f.bands, s);
+                got[i] = standing_at(places, b, t, spot.cell);
             }
             Found::Nowhere => {
                 let from = tables::table::place_in_table(s, f.points, spot.place);

@@ -13,8 +13,10 @@ use Rattle.space.proofs.BoxLaws.{stands-in}
 use Rattle.job.specs.Record.{points}
 use Rattle.tables.specs.Tables.{previous}
 use Rattle.tables.proofs.TableLaws.{few-streams, few-points, entry-in, place-as, Firsts, firsts-step}
+use Rattle.frame.specs.Framing.{Banded}
 use Rattle.frame.proofs.FrameLaws.{cell-below}
 use Rattle.array.specs.Steps.{taken}
+use Rattle.array.proofs.LendingLaws.{band-is, some-delay, place-is, place-in}
 use Rattle.array.proofs.WorkLaws.{taken-some, taken-none}
 use Rattle.array.proofs.work.incoming_all.Statement.{statement}
 use Rattle.array.proofs.work.incoming_all.Tie as tie
@@ -50,14 +52,6 @@ previous-at-requires c κs =
 enum-known-found : tie.Need-enum-known-found Inv-loop μ-loop
 enum-known-found c = search needs
 
-standing-at-requires : tie.Need-standing-at-requires Inv-loop μ-loop
-standing-at-requires c κs =
-    let asked = c .before .before .before in
-    let at = asked .before in
-    let q = start at .pre in
-    let a = start at .args in
-    (q .0 .framed, q .1, at .loop-test .taken, omega (arith, q .2 .cell, cell-below (a .f .job) (q .0 .framed .runnable .acceptable) (a .spot .place) (q .2 .low)))
-
 -- what was asked on the stream
 module _ (c : tie.After-previous-at Inv-loop μ-loop) where
   abbrev turn : tie.In-loop Inv-loop μ-loop
@@ -66,11 +60,31 @@ module _ (c : tie.After-previous-at Inv-loop μ-loop) where
   found : {o : Option ℕ} → foundOf (c .previous-at .result) ≡ o → previous (start turn .args .f .job) (s turn) (start turn .args .spot .place) ≡ o
   found e = sym (c .previous-at .ensures (start turn .args .spot .place) (start turn .pre .2 .point)) ∙ e
 
+band-at-requires : tie.Need-band-at-requires Inv-loop μ-loop
+band-at-requires c κs = let told = c .before .before in small (turn (told .before))
+
+-- the stream's band, where the point before is in the box
+module _ (c : tie.After-band-at Inv-loop μ-loop) where
+  abbrev told : tie.After-previous-at Inv-loop μ-loop
+  told = let match = c .before .before .before in match .before
+
+  banded : Banded (start (turn told) .args .f .job) (s (turn told)) (c .band-at .result)
+  banded = band-is (start (turn told) .pre .0 .framed) (turn told .loop-test .taken) (c .band-at .ensures)
+
+standing-at-requires : tie.Need-standing-at-requires Inv-loop μ-loop
+standing-at-requires c κs =
+    let at = turn (told c) in
+    let q = start at .pre in
+    let a = start at .args in
+    let h = at .loop-test .taken in
+    let in-cells = cell-below (a .f .job) (q .0 .framed .runnable .acceptable) (a .spot .place) (q .2 .low) in
+    (some-delay (q .0 .framed) h (banded c), place-in (q .0 .framed) h (banded c) (q .1) (a .t) (a .spot .cell) (omega (arith, q .2 .cell, in-cells)))
+
 mul-got : tie.Need-mul-got Inv-loop μ-loop
-mul-got c = let told = c .before in omega (arith, small (turn (told .before .before .before)))
+mul-got c = omega (arith, small (turn (told (c .before))))
 
 array-write-got : tie.Need-array-write-got Inv-loop μ-loop
-array-write-got c = let told = c .before in small (turn (told .before .before .before))
+array-write-got c = small (turn (told (c .before)))
 
 enum-told : tie.Need-enum-told Inv-loop μ-loop
 enum-told c = search needs
@@ -122,7 +136,10 @@ loop-again c =
     let a = start at .args in
     let l = at .before .loop in
     ⊎-elim
-    (λ y. one-more (l .inv) (small at) (y .4) (y .3 .ensures ∙ taken-some (a .f .job) (now (a .input)) (a .t) (now (a .places)) (s at) (a .spot .cell) (a .spot .place) _ (found (c .before) (ap foundOf (y .1 .given .1)))))
+    (λ y.
+    let read : tie.After-band-at Inv-loop μ-loop = record { before = record { before = record { before = record { before = c .before; match = y .0 }; found = y .1 }; known-told = y .2 }; band-at = y .3 } in
+    let there = ap (λ (i : ℕ). getD (now (a .places)) i 0) (place-is (start at .pre .0 .framed) (at .loop-test .taken) (banded read) (a .t) (a .spot .cell)) in
+    one-more (l .inv) (small at) (y .5) (y .4 .ensures ∙ there ∙ taken-some (a .f .job) (now (a .input)) (a .t) (now (a .places)) (s at) (a .spot .cell) (a .spot .place) _ (found (c .before) (ap foundOf (y .1 .given .1)))))
     (λ n.
     let read : tie.After-place-in-table Inv-loop μ-loop = record { before = record { before = record { before = c .before; match = n .0 }; enum-told = n .1 }; place-in-table = n .2 } in
     one-more (l .inv) (small at) (n .4) (ap (λ (i : ℕ). getD (now (a .input)) i 0) (there read) ∙ taken-none (a .f .job) (now (a .input)) (a .t) (now (a .places)) (s at) (a .spot .cell) (a .spot .place) (found (c .before) (ap foundOf (n .1 .given .1)))))
@@ -134,4 +151,4 @@ returns c = λ s ls. c .before .loop .inv .done s (omega (arith, c .loop-test .l
 pub incoming-all-spec : {M : Type 1} → statement M
 incoming-all-spec =
     tie.close
-    (tie.spec Inv-loop μ-loop loop-holds cast-i previous-at-requires enum-known-found standing-at-requires mul-got array-write-got enum-told place-in-table-requires mul-got-2 shared-slice-read-got mul-got-3 array-write-got-2 add-s loop-less loop-again returns)
+    (tie.spec Inv-loop μ-loop loop-holds cast-i previous-at-requires enum-known-found band-at-requires standing-at-requires mul-got array-write-got enum-told place-in-table-requires mul-got-2 shared-slice-read-got mul-got-3 array-write-got-2 add-s loop-less loop-again returns)
