@@ -1,5 +1,7 @@
 // The array of a job, and the loop that it is held against.
 
+#![tactic(auto)]
+
 // A run of all ticks, and a single tick.
 pub mod run;
 // One tick: the arrivals, then the work.

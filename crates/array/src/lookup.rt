@@ -13,7 +13,7 @@ use space::vector::Vector;
 use verdict::judge::Verdict;
 
 // The point, or that none is worked there and then, or the verdict's refusal.
-#[derive(Drop)]
+#[derive(Clone, Copy)]
 pub enum Lookup {
     At(Vector),
     Nowhere,
@@ -21,7 +21,7 @@ pub enum Lookup {
 }
 
 // The same in numbers: the number of refusal, 0 for none; whether there is a point, 1 or 0; and the point, 0 where there is none.
-#[derive(Drop)]
+#[derive(Clone, Copy)]
 pub struct Looked {
     pub number: u8,
     pub found: u8,

@@ -15,7 +15,7 @@ use space::boxes::Found;
 use space::vector::Vector;
 
 // What the loop answers: the point count, or the number of refusal.
-#[derive(Drop)]
+#[derive(Clone, Copy)]
 pub enum LoopReply {
     Points(u64),
     Refused(u8),

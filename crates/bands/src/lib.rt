@@ -1,4 +1,7 @@
 // One stream's band of register places: the cells of a rectangle, row by row, w places each. In a tick one place of every cell takes what arrives there from one hop back.
+
+#![tactic(auto)]
+
 ghost use Rattle.std.specs.Prelude.{◌≡◌, [], ◌∷◌, ◌<◌};
 ghost use Rattle.space.specs.Boxes.{side, In, count_of, place_of, back_of, found_of};
 ghost use Rattle.bands.specs.Bands.{rectangle_of, hop_of, arrival_in, Flat, Short, Lent, Shifted};
@@ -7,7 +10,7 @@ ghost use Rattle.bands.specs.Turns.{turn_of, Ordered};
 use space::boxes::Found;
 
 // The rectangle of cells.
-#[derive(Drop)]
+#[derive(Clone, Copy)]
 pub struct Rectangle {
     pub low0: i64,
     pub high0: i64,
@@ -16,7 +19,7 @@ pub struct Rectangle {
 }
 
 // A stream's band: where it begins in the room, how many places a cell has, and one hop.
-#[derive(Drop)]
+#[derive(Clone, Copy)]
 pub struct Band {
     pub from: u64,
     pub w: u64,

@@ -1,4 +1,7 @@
 // Bytes, put into a lent buffer from a place on. Whatever puts bytes says it by `Put`: the next place, and the whole buffer then.
+
+#![tactic(auto)]
+
 ghost use Rattle.buffer.specs.Put.{Fits, Put};
 
 // Puts all of bytes, and answers the next place.

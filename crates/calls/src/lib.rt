@@ -1,4 +1,7 @@
 // The functions on job bytes: each reads the job and answers the reader's refusal, or what is answered for the job that the bytes are. What the reader hands on is within the limits, so they are not asked a second time.
+
+#![tactic(auto)]
+
 ghost use Rattle.std.specs.Prelude.{◌≡◌, ◌≤◌, length};
 ghost use Rattle.job.specs.Limits.{Acceptable};
 ghost use Rattle.calls.specs.Bytes.{SaysOf, CountsOf, no_measures, MeasuresIn, MeasuresOf, RunsOf, SingleTickOf, LoopsOf, RowOf, LooksOf, WritesOf};
@@ -12,7 +15,7 @@ use verdict::judge::{Extent, NO_EXTENT, Verdict};
 use verdict::room::Room;
 
 // What a caller must know to lend tables: the number of refusal, 0 for none; n, m and the points of a job that is within the limits; the extent of an accepted array. What there is not is 0.
-#[derive(Drop)]
+#[derive(Clone, Copy)]
 pub struct Measures {
     pub number: u8,
     pub dimensions: u8,

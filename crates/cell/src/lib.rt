@@ -1,4 +1,7 @@
 // The cell rules, on u32 modulo 2^32.
+
+#![tactic(auto)]
+
 ghost use Rattle.std.specs.Prelude.{◌≡◌, ◌*◌, ◌%◌, ◌<◌, slice_index};
 ghost use Rattle.cell.specs.Cells.{ruled};
 

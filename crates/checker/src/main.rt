@@ -1,4 +1,7 @@
 // The checking program: reads a job from standard input and prints the line of its verdict.
+
+#![tactic(auto)]
+
 use libc::{STDIN_FILENO, STDOUT_FILENO};
 
 fn main() {

@@ -1,4 +1,7 @@
 // What a run and a single tick answer, and the checks before them.
+
+#![tactic(auto)]
+
 ghost use Rattle.std.specs.Prelude.{◌≡◌, true, false};
 ghost use Rattle.job.specs.Limits.{Acceptable};
 ghost use Rattle.job.specs.Refusals.{First};
@@ -12,14 +15,14 @@ use verdict::judge::{Extent, Verdict};
 const ROOM_LIMIT: u64 = 8192;
 
 // What an array is asked to do: a run, all ticks from cleared places, or one tick.
-#[derive(Drop)]
+#[derive(Clone, Copy)]
 pub enum Work {
     Run,
     Tick(u64),
 }
 
 // What a run or a tick answers: the tick count; the verdict's refusal; 13; 14 and 15 with R; 16.
-#[derive(Drop)]
+#[derive(Clone, Copy)]
 pub enum RunReply {
     Ticks(u64),
     Refused(Verdict),

@@ -1,4 +1,7 @@
 // The job's file, put into a lent buffer part by part: header, box, streams, matrices. Each part answers the place where the next one starts.
+
+#![tactic(auto)]
+
 ghost use Rattle.std.specs.Prelude.{◌≡◌, ◌≤◌};
 ghost use Rattle.job.specs.Limits.{Acceptable};
 ghost use Rattle.layout.specs.Layout.{InBytes, header_of, box_bytes, streams_bytes, matrix_bytes, stream_bytes, vector_bytes, file_of};

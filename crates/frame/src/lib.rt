@@ -1,4 +1,7 @@
 // The numbers of a job's array, worked out once: the rectangle of cells, the clock's start, the streams' bands; and the tick and the cell of a point.
+
+#![tactic(auto)]
+
 ghost use Rattle.std.specs.Prelude.{◌≡◌, ℕ, ◌+◌, ◌<◌, ◌≤◌, length, get_or};
 ghost use Rattle.space.specs.Vectors.{entries};
 ghost use Rattle.space.specs.Boxes.{In, point_of};
@@ -12,7 +15,7 @@ use job::record::Job;
 use space::vector::Vector;
 
 // A job with the numbers of its array: its point count, the clock's low end, how many cells there are.
-#[derive(Drop)]
+#[derive(Clone, Copy)]
 pub struct Frame {
     pub job: Job,
     pub points: u64,
@@ -23,7 +26,7 @@ pub struct Frame {
 }
 
 // The bands of the streams; there is no meaning in those past the last stream.
-#[derive(Drop)]
+#[derive(Clone, Copy)]
 pub struct Bands {
     pub band0: Band,
     pub band1: Band,
@@ -32,7 +35,7 @@ pub struct Bands {
 }
 
 // A point on its way through a tick: its place in box order, and its cell.
-#[derive(Drop)]
+#[derive(Clone, Copy)]
 pub struct Spot {
     pub point: Vector,
     pub place: u64,

@@ -1,4 +1,7 @@
 // The header of a job file: refusals 1 to 5.
+
+#![tactic(auto)]
+
 ghost use Rattle.std.specs.Prelude.{◌≡◌, ◌<◌};
 ghost use Rattle.space.specs.Numbers.{Tells};
 ghost use Rattle.job.specs.Refusals.{First};

@@ -1,5 +1,7 @@
 // The job as a record, and what it must keep.
 
+#![tactic(auto)]
+
 // The record: streams and rows by number.
 pub mod record;
 // Refusal 3: counts in range, unused places 0.

@@ -6,7 +6,7 @@ use space::boxes::Bounds;
 use space::vector::Vector;
 
 // A stream: its vector d, its kind, its rule and the rule's two sources.
-#[derive(Drop)]
+#[derive(Clone, Copy)]
 pub struct Stream {
     pub d: Vector,
     pub kind: u8,
@@ -16,7 +16,7 @@ pub struct Stream {
 }
 
 // A job: the counts n, k, m, the box, four streams, the time row and two place rows, zero in every unused place. Entries are wider than a file's, so that one beyond the limits can be held and refused.
-#[derive(Drop)]
+#[derive(Clone, Copy)]
 pub struct Job {
     pub n: u8,
     pub k: u8,

@@ -1,4 +1,7 @@
 // What the reader and the writer of a job file share: signed bytes, the offsets, the header.
+
+#![tactic(auto)]
+
 ghost use Rattle.std.specs.Prelude.{◌≡◌, ◌≤◌, ◌<◌};
 ghost use Rattle.layout.specs.Layout.{InByte, complement, streams_from, matrices_from, total_of, header_of};
 

@@ -12,7 +12,7 @@ use space::vector::Vector;
 use verdict::judge::{Collision, Extent, Pair, Verdict};
 
 // A verdict on a job of n dimensions, of which a point shows as many coordinates.
-#[derive(Drop)]
+#[derive(Clone, Copy)]
 pub struct Said {
     pub n: u8,
     pub verdict: Verdict,

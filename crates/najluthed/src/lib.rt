@@ -1,4 +1,7 @@
 // The library for C, C++, Rust and Python: each function takes job bytes and answers in numbers. The functions, and the layout of what they answer, are those of include/najluthed.h.
+
+#![tactic(auto)]
+
 ghost use Rattle.std.specs.Prelude.{◌≡◌, ◌≤◌, length};
 ghost use Rattle.calls.specs.Bytes.{WritesOf};
 ghost use Rattle.najluthed.specs.Calls.{done, point, AnswersVerdict, AnswersSizes, AnswersRoom, AnswersWork, AnswersLoop, AnswersPoint};
@@ -9,7 +12,7 @@ use job::numbers::Counted;
 
 // The number of refusal, 0 for accepted; stream and hops are 0 where the table lists none.
 #[repr(C)]
-#[derive(Drop)]
+#[derive(Clone, Copy)]
 pub struct Judged {
     pub number: u32,
     pub stream: u32,
@@ -18,7 +21,7 @@ pub struct Judged {
 
 // The number of refusal, 0 for none, and a count.
 #[repr(C)]
-#[derive(Drop)]
+#[derive(Clone, Copy)]
 pub struct Done {
     pub number: u32,
     pub count: u64,
@@ -26,7 +29,7 @@ pub struct Done {
 
 // The number of refusal, 0 for none; n, m and the points of a job within the limits; cells, ticks and room of an accepted array. What there is not is 0.
 #[repr(C)]
-#[derive(Drop)]
+#[derive(Clone, Copy)]
 pub struct Sizes {
     pub number: u32,
     pub dimensions: u32,
@@ -39,7 +42,7 @@ pub struct Sizes {
 
 // The number of refusal, 0 for none; whether there is a point, 1 or 0; and its coordinates, 0 where there is none.
 #[repr(C)]
-#[derive(Drop)]
+#[derive(Clone, Copy)]
 pub struct PointReply {
     pub number: u32,
     pub found: u32,

@@ -6,7 +6,7 @@ ghost use Rattle.print.specs.Decimal.{digits, decimal, value_of};
 const DIGITS: usize = 20;
 
 // A number that is printed: one that has no sign, or a signed one.
-#[derive(Drop)]
+#[derive(Clone, Copy)]
 pub enum Number {
     Count(u64),
     Signed(i64),

@@ -5,7 +5,7 @@ ghost use Rattle.print.specs.Words.{word_bytes};
 ghost use Rattle.print.specs.Spans.{from, to};
 
 // Each with the blanks about it.
-#[derive(Drop)]
+#[derive(Clone, Copy)]
 pub enum Word {
     AcceptedCells,
     Ticks,

@@ -1,5 +1,7 @@
 // The reader: job bytes to the job, or the number of refusal, 1 to 8.
 
+#![tactic(auto)]
+
 // The reply.
 pub mod reading;
 // What follows the header: box, streams and matrices.

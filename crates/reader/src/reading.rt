@@ -4,7 +4,7 @@ ghost use Rattle.reader.specs.Reading.{Reads};
 use job::record::Job;
 
 // What reading answers.
-#[derive(Drop)]
+#[derive(Clone, Copy)]
 pub enum Reading {
     Job(Job),
     Refused(u8),

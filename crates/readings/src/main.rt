@@ -1,4 +1,7 @@
 // Runs byte strings through the reader and, where they are a job, back through the writer. What it prints is held against the stored output.
+
+#![tactic(auto)]
+
 use job::record::Job;
 use libc::STDOUT_FILENO;
 use reader::reading::Reading;

@@ -1,4 +1,7 @@
 // Run and loop side by side, on the paper's small jobs, on matrix products and on jobs that are refused.
+
+#![tactic(auto)]
+
 mod cases;
 mod guarded;
 mod inputs;

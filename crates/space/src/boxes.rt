@@ -10,21 +10,21 @@ ghost use Rattle.space.specs.Boxes.{In, Apart, Solid, box_of, across, count_of, 
 use crate::vector::Vector;
 
 // The bounds of a box, l and u of each dimension. An unused dimension is 0..0.
-#[derive(Drop)]
+#[derive(Clone, Copy)]
 pub struct Bounds {
     pub low: Vector,
     pub high: Vector,
 }
 
 // Where a point stands, if it is in the box.
-#[derive(Drop)]
+#[derive(Clone, Copy)]
 pub enum Found {
     At(u64),
     Nowhere,
 }
 
 // The products of a row over the box: the least, the greatest, and how many numbers there are from the one to the other.
-#[derive(Drop)]
+#[derive(Clone, Copy)]
 pub struct Reach {
     pub low: i64,
     pub high: i64,
@@ -32,7 +32,7 @@ pub struct Reach {
 }
 
 // A whole number, not negative, for each dimension.
-#[derive(Drop)]
+#[derive(Clone, Copy)]
 struct Counts {
     n0: u64,
     n1: u64,

@@ -7,7 +7,7 @@ ghost use Rattle.space.specs.Multiples.{TellsMultiple};
 use crate::vector::Vector;
 
 // How many times one vector is another.
-#[derive(Drop)]
+#[derive(Clone, Copy)]
 pub enum Multiple {
     Times(i64),
     No,

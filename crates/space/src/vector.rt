@@ -5,7 +5,7 @@ ghost use Rattle.space.specs.Vectors.{entries, dot_of, plus_of, minus_of, times_
 ghost use Rattle.space.specs.Order.{Forward};
 
 // A vector: a point, a difference of points, or a row of a matrix. Unused entries are 0.
-#[derive(Drop)]
+#[derive(Clone, Copy)]
 pub struct Vector {
     pub x0: i64,
     pub x1: i64,

@@ -10,7 +10,7 @@ use job::record::Job;
 use space::vector::Vector;
 
 // One hop of a stream, as (w, e), and how many hops make d.
-#[derive(Drop)]
+#[derive(Clone, Copy)]
 pub struct Course {
     pub unit: Vector,
     pub g: u64,

@@ -7,7 +7,7 @@ use job::record::Job;
 use space::vector::Vector;
 
 // How many cells and ticks an accepted array has, and how many register places.
-#[derive(Drop)]
+#[derive(Clone, Copy)]
 pub struct Extent {
     pub cells: u64,
     pub ticks: u64,
@@ -22,21 +22,21 @@ pub const NO_EXTENT: Extent = Extent {
 };
 
 // Two points.
-#[derive(Drop)]
+#[derive(Clone, Copy)]
 pub struct Pair {
     pub p: Vector,
     pub q: Vector,
 }
 
 // Two tokens of a stream that meet: their points, and how many hops they are apart.
-#[derive(Drop)]
+#[derive(Clone, Copy)]
 pub struct Collision {
     pub stream: u8,
     pub pair: Pair,
     pub hops: i64,
 }
 
-#[derive(Drop)]
+#[derive(Clone, Copy)]
 pub enum Verdict {
     Accepted(Extent),
     Limit(u8),

@@ -1,5 +1,7 @@
 // The verdict on a job.
 
+#![tactic(auto)]
+
 // Where a job puts a point, and the course of each stream.
 pub mod course;
 // The first difference at which two points share a cell, or two tokens collide.

@@ -5,7 +5,7 @@ ghost use Rattle.verdict.specs.Verdicts.{in_numbers};
 use crate::judge::{Extent, NO_EXTENT, Pair, Verdict};
 
 // The number of refusal, 0 for accepted, and what is returned besides: zeros where the table lists nothing.
-#[derive(Drop)]
+#[derive(Clone, Copy)]
 pub struct InNumbers {
     pub number: u8,
     pub stream: u8,

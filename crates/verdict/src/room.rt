@@ -8,7 +8,7 @@ use job::numbers::Counted;
 use job::record::Job;
 
 // How many register places an accepted array has, or the refusal.
-#[derive(Drop)]
+#[derive(Clone, Copy)]
 pub enum Room {
     Places(u64),
     Refused(Verdict),

@@ -10,21 +10,21 @@ use crate::walk::{FoundGap, FoundLink};
 use job::record::Job;
 
 // The lowest stream that breaks a rule, or none.
-#[derive(Drop)]
+#[derive(Clone, Copy)]
 pub enum FoundStream {
     At(u8),
     Nowhere,
 }
 
 // The first pair of points in one cell at one tick, or none.
-#[derive(Drop)]
+#[derive(Clone, Copy)]
 pub enum FoundPair {
     At(Pair),
     Nowhere,
 }
 
 // The first pair of tokens that meet on a link, or none.
-#[derive(Drop)]
+#[derive(Clone, Copy)]
 pub enum FoundCollision {
     At(Collision),
     Nowhere,

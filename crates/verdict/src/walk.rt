@@ -17,28 +17,28 @@ use space::multiple::Multiple;
 use space::vector::Vector;
 
 // Whether two tokens meet, and how many hops apart.
-#[derive(Drop)]
+#[derive(Clone, Copy)]
 pub enum FoundHops {
     Hops(i64),
     Apart,
 }
 
 // A difference of two points, where one was found.
-#[derive(Drop)]
+#[derive(Clone, Copy)]
 pub enum FoundGap {
     At(Vector),
     Nowhere,
 }
 
 // A difference of two points whose tokens meet, and how many hops they are apart.
-#[derive(Drop)]
+#[derive(Clone, Copy)]
 pub struct Link {
     pub gap: Vector,
     pub hops: i64,
 }
 
 // The same, where one was found.
-#[derive(Drop)]
+#[derive(Clone, Copy)]
 pub enum FoundLink {
     At(Link),
     Nowhere,

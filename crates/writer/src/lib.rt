@@ -1,4 +1,7 @@
 // The writer: a record and a lent buffer to the total, or the number of refusal, 3, 6, 7, 8 or 17.
+
+#![tactic(auto)]
+
 ghost use Rattle.std.specs.Prelude.{◌≡◌};
 ghost use Rattle.writer.specs.Writing.{Writes, counted_of};
 
@@ -6,7 +9,7 @@ use job::numbers::Counted;
 use job::record::Job;
 
 // What writing answers: the total, a refusal by a limit, or 17 with the total that the buffer is shorter than.
-#[derive(Drop)]
+#[derive(Clone, Copy)]
 pub enum Wrote {
     Total(usize),
     Refused(u8),

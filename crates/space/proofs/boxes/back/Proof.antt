@@ -16,8 +16,8 @@ use Rattle.space.proofs.BackLaws.{back_told}
 use Rattle.space.proofs.boxes.back.Statement.{statement}
 use Rattle.space.proofs.boxes.back.Tie as tie
 
-minus-requires : tie.Need-minus-requires
-minus-requires c κs =
+minus-q-requires : tie.Need-minus-q-requires
+minus-q-requires c κs =
     let b = c.args.b in
     let p = c.requires in
     let there : Sized limit (entries c.args.p) = sized_up (omega arith) (inside_sized b p.0 p.1 p.3) in
@@ -28,25 +28,25 @@ contains-requires : tie.Need-contains-requires
 contains-requires c κs = search rules
 
 -- what is asked for is x - d
-asked : (c : tie.After-minus) (k : ℕ) → entries c.before.args.p ≡ point_of (box_of c.before.args.b) k → entries c.minus.result ≡ minus_of (point_of (box_of c.before.args.b) k) (entries c.before.args.d)
-asked c k e = c.minus.ensures ∙ ap (λ (x : List ℤ). minus_of x (entries c.before.args.d)) e
+asked : (c : tie.After-minus-q) (k : ℕ) → entries c.before.args.p ≡ point_of (box_of c.before.args.b) k → entries c.minus-q.result ≡ minus_of (point_of (box_of c.before.args.b) k) (entries c.before.args.d)
+asked c k e = c.minus-q.ensures ∙ ap (λ (x : List ℤ). minus_of x (entries c.before.args.d)) e
 
 place-requires : tie.Need-place-requires
 place-requires c κs =
     let p = c.before.before.before.requires in
-    (p.0, p.1, c.before.contains.ensures.holds c.if1.true)
+    (p.0, p.1, c.before.contains.ensures.holds c.if-contains.true)
 
-returns : tie.Need-returns
-returns c k e =
+returns-then-contains : tie.Need-returns-then-contains
+returns-then-contains c k e =
     let a = c.before.before.before.before.args in
-    let y = entries c.before.before.before.minus.result in
-    ap some c.place.ensures ∙ back_told (box_of a.b) (entries a.d) k y true (asked c.before.before.before k e) (subst (Tells (In (box_of a.b) y)) c.before.if1.true c.before.before.contains.ensures)
+    let y = entries c.before.before.before.minus-q.result in
+    ap some c.place.ensures ∙ back_told (box_of a.b) (entries a.d) k y true (asked c.before.before.before k e) (subst (Tells (In (box_of a.b) y)) c.before.if-contains.true c.before.before.contains.ensures)
 
-returns-2 : tie.Need-returns-2
-returns-2 c k e =
+returns-else-contains : tie.Need-returns-else-contains
+returns-else-contains c k e =
     let a = c.before.before.before.args in
-    let y = entries c.before.before.minus.result in
-    back_told (box_of a.b) (entries a.d) k y false (asked c.before.before k e) (subst (Tells (In (box_of a.b) y)) c.if1.false c.before.contains.ensures)
+    let y = entries c.before.before.minus-q.result in
+    back_told (box_of a.b) (entries a.d) k y false (asked c.before.before k e) (subst (Tells (In (box_of a.b) y)) c.if-contains.false c.before.contains.ensures)
 
 pub back_spec : {M : Type 1} → statement M
-back_spec = tie.close (tie.spec minus-requires contains-requires place-requires returns returns-2)
+back_spec = tie.close (tie.spec minus-q-requires contains-requires place-requires returns-then-contains returns-else-contains)

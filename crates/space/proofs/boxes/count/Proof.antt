@@ -8,23 +8,23 @@ use Rattle.space.proofs.Digits.{lengths_small, lengths_count}
 use Rattle.space.proofs.boxes.count.Statement.{statement}
 use Rattle.space.proofs.boxes.count.Tie as tie
 
-lengths-requires : tie.Need-lengths-requires
-lengths-requires c κs = search rules
+lengths-n-requires : tie.Need-lengths-n-requires
+lengths-n-requires c κs = search rules
 
-small : (c : tie.After-lengths) → (c.lengths.result.n0 ≤ side_limit) × (c.lengths.result.n1 ≤ side_limit) × (c.lengths.result.n2 ≤ side_limit) × (c.lengths.result.n3 ≤ side_limit)
-small c = lengths_small c.lengths.result c.before.args.b c.lengths.ensures c.before.requires.0 c.before.requires.1
+small : (c : tie.After-lengths-n) → (c.lengths-n.result.n0 ≤ side_limit) × (c.lengths-n.result.n1 ≤ side_limit) × (c.lengths-n.result.n2 ≤ side_limit) × (c.lengths-n.result.n3 ≤ side_limit)
+small c = lengths_small c.lengths-n.result c.before.args.b c.lengths-n.ensures c.before.requires.0 c.before.requires.1
 
-mul-result : tie.Need-overflow-mul-result
-mul-result c = let n = small c.before in fits_under (mul-le-mul n.2 n.3) tt
+overflow_mul-result : tie.Need-overflow_mul-result
+overflow_mul-result c = let n = small c.before in fits_under (mul-le-mul n.2 n.3) tt
 
-mul-result-2 : tie.Need-overflow-mul-result-2
-mul-result-2 c = let n = small c.before.before in fits_under (mul-le-mul n.1 (mul-le-mul n.2 n.3)) tt
+overflow_mul-result-2 : tie.Need-overflow_mul-result-2
+overflow_mul-result-2 c = let n = small c.before.before in fits_under (mul-le-mul n.1 (mul-le-mul n.2 n.3)) tt
 
-mul-result-3 : tie.Need-overflow-mul-result-3
-mul-result-3 c = let n = small c.before.before.before in fits_under (mul-le-mul n.0 (mul-le-mul n.1 (mul-le-mul n.2 n.3))) tt
+overflow_mul-result-3 : tie.Need-overflow_mul-result-3
+overflow_mul-result-3 c = let n = small c.before.before.before in fits_under (mul-le-mul n.0 (mul-le-mul n.1 (mul-le-mul n.2 n.3))) tt
 
 returns : tie.Need-returns
-returns c = lengths_count c.before.before.before.lengths.result c.before.before.before.before.args.b c.before.before.before.lengths.ensures
+returns c = lengths_count c.before.before.before.lengths-n.result c.before.before.before.before.args.b c.before.before.before.lengths-n.ensures
 
 pub count_spec : {M : Type 1} → statement M
-count_spec = tie.close (tie.spec lengths-requires mul-result mul-result-2 mul-result-3 returns)
+count_spec = tie.close (tie.spec lengths-n-requires overflow_mul-result overflow_mul-result-2 overflow_mul-result-3 returns)

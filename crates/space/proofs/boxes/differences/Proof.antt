@@ -18,21 +18,21 @@ minus-requires c κs = search rules
 minus-requires-2 : tie.Need-minus-requires-2
 minus-requires-2 c κs = search rules
 
-abbrev answer : tie.After-minus2 → Bounds
-answer c = record { low = c.before.minus.result; high = c.minus2.result }
+abbrev answer : tie.After-minus-2 → Bounds
+answer c = record { low = c.before.minus.result; high = c.minus-2.result }
 
-is_spread : (c : tie.After-minus2) → box_of (answer c) ≡ spread (box_of c.before.before.before.before.args.b)
-is_spread c = spread_box c.before.before.before.before.args.b (answer c) c.before.minus.ensures c.minus2.ensures
+is_spread : (c : tie.After-minus-2) → box_of (answer c) ≡ spread (box_of c.before.before.before.before.args.b)
+is_spread c = spread_box c.before.before.before.before.args.b (answer c) c.before.minus.ensures c.minus-2.ensures
 
 -- a difference is in the answer
-all : (c : tie.After-minus2) (y : List ℤ) → Apart (box_of c.before.before.before.before.args.b) y → In (box_of (answer c)) y
+all : (c : tie.After-minus-2) (y : List ℤ) → Apart (box_of c.before.before.before.before.args.b) y → In (box_of (answer c)) y
 all c y a = subst (λ (B : Box). In B y) (sym (is_spread c)) (apart_in (box_of c.before.before.before.before.args.b) y a)
 
 returns : tie.Need-returns
 returns c =
     let B = box_of c.before.before.before.before.args.b in
     let p = c.before.before.before.before.requires in (
-      (subst (Sized difference) (sym c.before.minus.ensures) (minus_sized p.0 p.1), subst (Sized difference) (sym c.minus2.ensures) (minus_sized p.1 p.0)),
+      (subst (Sized difference) (sym c.before.minus.ensures) (minus_sized p.0 p.1), subst (Sized difference) (sym c.minus-2.ensures) (minus_sized p.1 p.0)),
       (λ y i. in_apart B y (subst (λ (D : Box). In D y) (is_spread c) i), λ y a. all c y a),
     )
 

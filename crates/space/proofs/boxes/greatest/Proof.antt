@@ -31,8 +31,8 @@ turned c =
     let s = c.before.before in
     sub (lit 0 tt) (arg (least_size limit (opposite c.before) (sides_sized s.args.b s.requires.1 s.requires.2) c.least.ensures) tt) tt
 
-sub-result : tie.Need-overflow-sub-result
-sub-result c = fit (turned c)
+overflow_sub-result : tie.Need-overflow_sub-result
+overflow_sub-result c = fit (turned c)
 
 returns : tie.Need-returns
 returns c =
@@ -41,4 +41,4 @@ returns c =
     subst (Greatest (entries c.before.before.args.h) B) (sym (read (turned c))) (least_turned L)
 
 pub greatest_spec : {M : Type 1} → statement M
-greatest_spec = tie.close (tie.spec times-requires least-requires sub-result returns)
+greatest_spec = tie.close (tie.spec times-requires least-requires overflow_sub-result returns)

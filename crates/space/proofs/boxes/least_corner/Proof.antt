@@ -31,30 +31,30 @@ of_fields : {r : ℤ} (h a b : ℤ) → SFits w64 r → SFits w64 h → SFits w6
 of_fields h a b f g k l e = back f ∙ (rw (back g, back k, back l) at e)
 
 -- moments of the walk: after each choice but the last; where the function starts
-abbrev after-chosen3 : tie.After-chosen4 → tie.After-chosen3
+abbrev after-chosen3 : tie.After-chosen-4 → tie.After-chosen-3
 after-chosen3 c = c.before.before.before.before
 
-abbrev after-chosen2 : tie.After-chosen4 → tie.After-chosen2
+abbrev after-chosen2 : tie.After-chosen-4 → tie.After-chosen-2
 after-chosen2 c = (after-chosen3 c).before.before.before.before
 
-abbrev after-chosen : tie.After-chosen4 → tie.After-chosen
+abbrev after-chosen : tie.After-chosen-4 → tie.After-chosen
 after-chosen c = (after-chosen2 c).before.before.before.before
 
-abbrev start : tie.After-chosen4 → tie.Start
+abbrev start : tie.After-chosen-4 → tie.Start
 start c = (after-chosen c).before.before.before.before.before.before
 
-are : (c : tie.After-chosen4) → ◌≡◌ {A = List ℤ} (held (after-chosen c).chosen.result ∷ held (after-chosen2 c).chosen2.result ∷ held (after-chosen3 c).chosen3.result ∷ held c.chosen4.result ∷ []) (corner_of (entries (start c).args.h) (box_of (start c).args.b))
+are : (c : tie.After-chosen-4) → ◌≡◌ {A = List ℤ} (held (after-chosen c).chosen.result ∷ held (after-chosen2 c).chosen-2.result ∷ held (after-chosen3 c).chosen-3.result ∷ held c.chosen-4.result ∷ []) (corner_of (entries (start c).args.h) (box_of (start c).args.b))
 unfolding corner_of
 are c =
     let s = (start c).args in
-    let h = c.before.before.before.struct-told10.given in
-    let l = c.before.before.struct-told11.given in
-    let u = c.before.struct-told12.given in
+    let h = c.before.before.before.struct_told-10-1.given in
+    let l = c.before.before.struct_told-11-1.given in
+    let u = c.before.struct_told-12-1.given in
     four
-    (of_fields s.h.x0 s.b.low.x0 s.b.high.x0 (in_range (after-chosen c).chosen.type-inv) (in_range h.0.1) (in_range l.0.1) (in_range u.0.1) (after-chosen c).chosen.ensures)
-    (of_fields s.h.x1 s.b.low.x1 s.b.high.x1 (in_range (after-chosen2 c).chosen2.type-inv) (in_range h.1.0.1) (in_range l.1.0.1) (in_range u.1.0.1) (after-chosen2 c).chosen2.ensures)
-    (of_fields s.h.x2 s.b.low.x2 s.b.high.x2 (in_range (after-chosen3 c).chosen3.type-inv) (in_range h.1.1.0.1) (in_range l.1.1.0.1) (in_range u.1.1.0.1) (after-chosen3 c).chosen3.ensures)
-    (of_fields s.h.x3 s.b.low.x3 s.b.high.x3 (in_range c.chosen4.type-inv) (in_range h.1.1.1.0.1) (in_range l.1.1.1.0.1) (in_range u.1.1.1.0.1) c.chosen4.ensures)
+    (of_fields s.h.x0 s.b.low.x0 s.b.high.x0 (in_range (after-chosen c).chosen.type_inv) (in_range h.0.1) (in_range l.0.1) (in_range u.0.1) (after-chosen c).chosen.ensures)
+    (of_fields s.h.x1 s.b.low.x1 s.b.high.x1 (in_range (after-chosen2 c).chosen-2.type_inv) (in_range h.1.0.1) (in_range l.1.0.1) (in_range u.1.0.1) (after-chosen2 c).chosen-2.ensures)
+    (of_fields s.h.x2 s.b.low.x2 s.b.high.x2 (in_range (after-chosen3 c).chosen-3.type_inv) (in_range h.1.1.0.1) (in_range l.1.1.0.1) (in_range u.1.1.0.1) (after-chosen3 c).chosen-3.ensures)
+    (of_fields s.h.x3 s.b.low.x3 s.b.high.x3 (in_range c.chosen-4.type_inv) (in_range h.1.1.1.0.1) (in_range l.1.1.1.0.1) (in_range u.1.1.1.0.1) c.chosen-4.ensures)
 
 returns : tie.Need-returns
 returns c =

@@ -14,8 +14,8 @@ use Rattle.space.proofs.PairLaws.{greater_of, start_of, start_in, start_least, a
 use Rattle.space.proofs.boxes.least_start.Statement.{statement}
 use Rattle.space.proofs.boxes.least_start.Tie as tie
 
-minus-requires : tie.Need-minus-requires
-minus-requires c κs = search rules
+minus-s-requires : tie.Need-minus-s-requires
+minus-s-requires c κs = search rules
 
 greater-requires : tie.Need-greater-requires
 greater-requires c κs = search rules
@@ -34,33 +34,33 @@ of_fields : {r : ℤ} (a b d : ℤ) → SFits w64 r → SFits w64 a → SFits w6
 of_fields a b d f g h e k = back f ∙ (rw (back g, back h) at e) ∙ ap (greater_of a) k
 
 -- moments of the walk: after each entry but the last; where the function starts
-abbrev after-greater3 : tie.After-greater4 → tie.After-greater3
+abbrev after-greater3 : tie.After-greater-4 → tie.After-greater-3
 after-greater3 c = c.before.before.before
 
-abbrev after-greater2 : tie.After-greater4 → tie.After-greater2
+abbrev after-greater2 : tie.After-greater-4 → tie.After-greater-2
 after-greater2 c = (after-greater3 c).before.before.before
 
-abbrev after_greater : tie.After-greater4 → tie.After-greater
+abbrev after_greater : tie.After-greater-4 → tie.After-greater
 after_greater c = (after-greater2 c).before.before.before
 
-abbrev start : tie.After-greater4 → tie.Start
+abbrev start : tie.After-greater-4 → tie.Start
 start c = (after_greater c).before.before.before.before.before
 
-are : (c : tie.After-greater4) → ◌≡◌ {A = List ℤ} (held (after_greater c).greater.result ∷ held (after-greater2 c).greater2.result ∷ held (after-greater3 c).greater3.result ∷ held c.greater4.result ∷ []) (start_of (box_of (start c).args.b) (entries (start c).args.y))
+are : (c : tie.After-greater-4) → ◌≡◌ {A = List ℤ} (held (after_greater c).greater.result ∷ held (after-greater2 c).greater-2.result ∷ held (after-greater3 c).greater-3.result ∷ held c.greater-4.result ∷ []) (start_of (box_of (start c).args.b) (entries (start c).args.y))
 unfolding minus_of start_of
 are c =
     let after_greater = after_greater c in
     let after_minus = after_greater.before.before.before in
     let low = after_minus.before.before.args.b.low in
-    let s = after_minus.minus.result in
-    let l = c.before.before.struct-told7.given in
-    let m = c.before.struct-told8.given in
-    let e = unfour after_minus.minus.ensures in
+    let s = after_minus.minus-s.result in
+    let l = c.before.before.struct_told-7-1.given in
+    let m = c.before.struct_told-8-1.given in
+    let e = unfour after_minus.minus-s.ensures in
     four
-    (of_fields low.x0 s.x0 _ (in_range after_greater.greater.ok) (in_range l.0.1) (in_range m.0.1) after_greater.greater.ensures e.0)
-    (of_fields low.x1 s.x1 _ (in_range (after-greater2 c).greater2.type-inv) (in_range l.1.0.1) (in_range m.1.0.1) (after-greater2 c).greater2.ensures e.1)
-    (of_fields low.x2 s.x2 _ (in_range (after-greater3 c).greater3.type-inv) (in_range l.1.1.0.1) (in_range m.1.1.0.1) (after-greater3 c).greater3.ensures e.2)
-    (of_fields low.x3 s.x3 _ (in_range c.greater4.type-inv) (in_range l.1.1.1.0.1) (in_range m.1.1.1.0.1) c.greater4.ensures e.3)
+    (of_fields low.x0 s.x0 _ (in_range after_greater.greater.type_inv) (in_range l.0.1) (in_range m.0.1) after_greater.greater.ensures e.0)
+    (of_fields low.x1 s.x1 _ (in_range (after-greater2 c).greater-2.type_inv) (in_range l.1.0.1) (in_range m.1.0.1) (after-greater2 c).greater-2.ensures e.1)
+    (of_fields low.x2 s.x2 _ (in_range (after-greater3 c).greater-3.type_inv) (in_range l.1.1.0.1) (in_range m.1.1.0.1) (after-greater3 c).greater-3.ensures e.2)
+    (of_fields low.x3 s.x3 _ (in_range c.greater-4.type_inv) (in_range l.1.1.1.0.1) (in_range m.1.1.1.0.1) c.greater-4.ensures e.3)
 
 returns : tie.Need-returns
 returns c =
@@ -73,4 +73,4 @@ returns c =
     )
 
 pub least_start_spec : {M : Type 1} → statement M
-least_start_spec = tie.close (tie.spec minus-requires greater-requires greater-requires-2 greater-requires-3 greater-requires-4 returns)
+least_start_spec = tie.close (tie.spec minus-s-requires greater-requires greater-requires-2 greater-requires-3 greater-requires-4 returns)

@@ -37,7 +37,7 @@ module _ (s : tie.Start) where
   -- the point without its first entries, in the box without its first sides
   in1 : In (side s.args.b.low.x1 s.args.b.high.x1 ∷ side s.args.b.low.x2 s.args.b.high.x2 ∷ side s.args.b.low.x3 s.args.b.high.x3 ∷ []) (s.args.p.x1 ∷ s.args.p.x2 ∷ s.args.p.x3 ∷ [])
   unfolding In
-  in1 = s.pre.2.2
+  in1 = s.requires.2.2
 
   in2 : In (side s.args.b.low.x2 s.args.b.high.x2 ∷ side s.args.b.low.x3 s.args.b.high.x3 ∷ []) (s.args.p.x2 ∷ s.args.p.x3 ∷ [])
   unfolding In
@@ -62,7 +62,7 @@ module _ (s : tie.Start) where
   first_below k l i t = by (≤ℤ_or-< s.args.b.high.x0 s.args.p.x0)
     where
       by : (s.args.b.high.x0 ≤ℤ s.args.p.x0) ⊎ (s.args.p.x0 <ℤ s.args.b.high.x0) → s.args.p.x0 <ℤ s.args.b.high.x0
-      by (inl h) = absurd (last_none (box_of s.args.b) (entries s.args.p) k (last_more _ _ _ _ s.pre.2 h l) i t)
+      by (inl h) = absurd (last_none (box_of s.args.b) (entries s.args.p) k (last_more _ _ _ _ s.requires.2 h l) i t)
       by (inr h) = h
 
   -- the answer, where it is the next point
@@ -70,84 +70,84 @@ module _ (s : tie.Start) where
   follows {q} e n k i h = e ∙ next_point (box_of s.args.b) (entries s.args.p) q k n i (omega arith)
 
 -- moments of the walk: where the function starts, from each test; where the last entry, and the one before it, is at its high bound
-abbrev start : tie.After-struct-told2 → tie.Start
+abbrev start : tie.After-struct_told-2-1 → tie.Start
 start c = c.before.before.before.before.before.before
 
-abbrev else1 : tie.After-struct-told6 → tie.Else1
+abbrev else1 : tie.After-struct_told-4-1 → tie.Else-p-u
 else1 c = c.before.before.before.before
 
-abbrev start2 : tie.After-struct-told6 → tie.Start
+abbrev start2 : tie.After-struct_told-4-1 → tie.Start
 start2 c = start (else1 c).before
 
-abbrev else2 : tie.After-struct-told11 → tie.Else2
+abbrev else2 : tie.After-struct_told-6-1 → tie.Else-p-u-2
 else2 c = c.before.before.before.before
 
-abbrev start3 : tie.After-struct-told11 → tie.Start
+abbrev start3 : tie.After-struct_told-6-1 → tie.Start
 start3 c = start2 (else2 c).before
 
-add-t6 : tie.Need-overflow-add-t6
-add-t6 c = fit (more (sized (start c.before.before.before)).each.1.1.1.0)
+overflow_add-result : tie.Need-overflow_add-result
+overflow_add-result c = fit (more (sized (start c.before.before.before)).each.1.1.1.0)
 
-returns : tie.Need-returns
-returns c =
+returns-then-p-u : tie.Need-returns-then-p-u
+returns-then-p-u c =
     let then1 = c.before.before.before in
     let s = start then1.before in
     let z = (sized s).each in
-    let h = below z.1.1.1.0 s.pre.1.each.1.1.1.0 then1.if1.true in
+    let h = below z.1.1.1.0 s.requires.1.each.1.1.1.0 then1.if-p-u.true in
     follows s (four (as_held tt z.0) (as_held tt z.1.0) (as_held tt z.1.1.0) (read (more z.1.1.1.0)))
-    (next_behind _ _ _ _ _ s.pre.2 (next_behind _ _ _ _ _ (in1 s) (next_behind _ _ _ _ _ (in2 s) (next_first _ [] _ [] (in3 s) last_nothing h))))
+    (next_behind _ _ _ _ _ s.requires.2 (next_behind _ _ _ _ _ (in1 s) (next_behind _ _ _ _ _ (in2 s) (next_first _ [] _ [] (in3 s) last_nothing h))))
 
-add-t7 : tie.Need-overflow-add-t7
-add-t7 c = fit (more (sized (start2 c.before.before.before)).each.1.1.0)
+overflow_add-result-then-p-u-2 : tie.Need-overflow_add-result-then-p-u-2
+overflow_add-result-then-p-u-2 c = fit (more (sized (start2 c.before.before.before)).each.1.1.0)
 
-returns-2 : tie.Need-returns-2
-returns-2 c =
+returns-then-p-u-2 : tie.Need-returns-then-p-u-2
+returns-then-p-u-2 c =
     let then2 = c.before.before.before.before in
     let else1 = else1 then2.before in
     let s = start else1.before in
     let z = (sized s).each in
-    let l = s.pre.0.each in
-    let u = s.pre.1.each in
-    let h3 = at_high z.1.1.1.0 u.1.1.1.0 else1.if1.left in
-    let h2 = below z.1.1.0 u.1.1.0 then2.if2.true in
+    let l = s.requires.0.each in
+    let u = s.requires.1.each in
+    let h3 = at_high z.1.1.1.0 u.1.1.1.0 else1.if-p-u.false in
+    let h2 = below z.1.1.0 u.1.1.0 then2.if-p-u-2.true in
     follows s (four (as_held tt z.0) (as_held tt z.1.0) (read (more z.1.1.0)) (as_held tt l.1.1.1.0))
-    (next_behind _ _ _ _ _ s.pre.2 (next_behind _ _ _ _ _ (in1 s) (next_first _ _ _ _ (in2 s) (last3 s h3) h2)))
+    (next_behind _ _ _ _ _ s.requires.2 (next_behind _ _ _ _ _ (in1 s) (next_first _ _ _ _ (in2 s) (last3 s h3) h2)))
 
-add-t8 : tie.Need-overflow-add-t8
-add-t8 c = fit (more (sized (start3 c.before.before.before)).each.1.0)
+overflow_add-result-then-p-u-3 : tie.Need-overflow_add-result-then-p-u-3
+overflow_add-result-then-p-u-3 c = fit (more (sized (start3 c.before.before.before)).each.1.0)
 
-returns-3 : tie.Need-returns-3
-returns-3 c =
+returns-then-p-u-3 : tie.Need-returns-then-p-u-3
+returns-then-p-u-3 c =
     let then3 = c.before.before.before.before in
     let else2 = else2 then3.before in
     let else1 = else1 else2.before in
     let s = start else1.before in
     let z = (sized s).each in
-    let l = s.pre.0.each in
-    let u = s.pre.1.each in
-    let h3 = at_high z.1.1.1.0 u.1.1.1.0 else1.if1.left in
-    let h2 = at_high z.1.1.0 u.1.1.0 else2.if2.left in
-    let h1 = below z.1.0 u.1.0 then3.if3.true in
+    let l = s.requires.0.each in
+    let u = s.requires.1.each in
+    let h3 = at_high z.1.1.1.0 u.1.1.1.0 else1.if-p-u.false in
+    let h2 = at_high z.1.1.0 u.1.1.0 else2.if-p-u-2.false in
+    let h1 = below z.1.0 u.1.0 then3.if-p-u-3.true in
     follows s (four (as_held tt z.0) (read (more z.1.0)) (as_held tt l.1.1.0) (as_held tt l.1.1.1.0))
-    (next_behind _ _ _ _ _ s.pre.2 (next_first _ _ _ _ (in1 s) (last2 s h2 h3) h1))
+    (next_behind _ _ _ _ _ s.requires.2 (next_first _ _ _ _ (in1 s) (last2 s h2 h3) h1))
 
-add-t9 : tie.Need-overflow-add-t9
-add-t9 c = fit (more (sized (start3 c.before.before.before)).each.0)
+overflow_add-result-2 : tie.Need-overflow_add-result-2
+overflow_add-result-2 c = fit (more (sized (start3 c.before.before.before)).each.0)
 
-returns-4 : tie.Need-returns-4
-returns-4 c k i t =
+returns : tie.Need-returns
+returns c k i t =
     let else3 = c.before.before.before in
     let else2 = else2 else3.before in
     let else1 = else1 else2.before in
     let s = start else1.before in
     let z = (sized s).each in
-    let l = s.pre.0.each in
-    let u = s.pre.1.each in
-    let h3 = at_high z.1.1.1.0 u.1.1.1.0 else1.if1.left in
-    let h2 = at_high z.1.1.0 u.1.1.0 else2.if2.left in
-    let h1 = at_high z.1.0 u.1.0 else3.if3.false in
+    let l = s.requires.0.each in
+    let u = s.requires.1.each in
+    let h3 = at_high z.1.1.1.0 u.1.1.1.0 else1.if-p-u.false in
+    let h2 = at_high z.1.1.0 u.1.1.0 else2.if-p-u-2.false in
+    let h1 = at_high z.1.0 u.1.0 else3.if-p-u-3.false in
     follows s (four (read (more z.0)) (as_held tt l.1.0) (as_held tt l.1.1.0) (as_held tt l.1.1.1.0))
-    (next_first _ _ _ _ s.pre.2 (last1 s h1 h2 h3) (first_below s k (last1 s h1 h2 h3) i t)) k i t
+    (next_first _ _ _ _ s.requires.2 (last1 s h1 h2 h3) (first_below s k (last1 s h1 h2 h3) i t)) k i t
 
 pub next_spec : {M : Type 1} → statement M
-next_spec = tie.close (tie.spec add-t6 returns add-t7 returns-2 add-t8 returns-3 add-t9 returns-4)
+next_spec = tie.close (tie.spec overflow_add-result returns-then-p-u overflow_add-result-then-p-u-2 returns-then-p-u-2 overflow_add-result-then-p-u-3 returns-then-p-u-3 overflow_add-result-2 returns)

@@ -22,52 +22,52 @@ module _ (s : tie.Start) where
   few h k = record { size = omega arith }
 
   few0 : Size side_limit (pos (digit0 s.args.k s.args.n.n1 s.args.n.n2 s.args.n.n3))
-  few0 = few are.below0 s.pre.0
+  few0 = few are.below0 s.requires.0
 
   few1 : Size side_limit (pos (digit1 s.args.k s.args.n.n1 s.args.n.n2 s.args.n.n3))
-  few1 = few are.below1 s.pre.1
+  few1 = few are.below1 s.requires.1
 
   few2 : Size side_limit (pos (digit2 s.args.k s.args.n.n1 s.args.n.n2 s.args.n.n3))
-  few2 = few are.below2 s.pre.2
+  few2 = few are.below2 s.requires.2
 
   few3 : Size side_limit (pos (digit3 s.args.k s.args.n.n1 s.args.n.n2 s.args.n.n3))
-  few3 = few are.below3 s.pre.3
+  few3 = few are.below3 s.requires.3
 
-mul-behind-1 : tie.Need-overflow-mul-behind-1
-mul-behind-1 c = let p = c.before.requires in fits_under (mul-le-mul p.2 p.3) tt
+overflow_mul-behind_1 : tie.Need-overflow_mul-behind_1
+overflow_mul-behind_1 c = let p = c.before.requires in fits_under (mul-le-mul p.2 p.3) tt
 
-mul-behind-0 : tie.Need-overflow-mul-behind-0
-mul-behind-0 c = let p = c.before.before.requires in fits_under (mul-le-mul p.1 (mul-le-mul p.2 p.3)) tt
+overflow_mul-behind_0 : tie.Need-overflow_mul-behind_0
+overflow_mul-behind_0 c = let p = c.before.before.requires in fits_under (mul-le-mul p.1 (mul-le-mul p.2 p.3)) tt
 
-rem-k1 : tie.Need-nonzero-rem-k1
-rem-k1 c = (are c.before.before).some1
+nonzero_rem-k1 : tie.Need-nonzero_rem-k1
+nonzero_rem-k1 c = (are c.before.before).some1
 
-rem-k2 : tie.Need-nonzero-rem-k2
-rem-k2 c = (are c.before.before).some2
+nonzero_rem-k2 : tie.Need-nonzero_rem-k2
+nonzero_rem-k2 c = (are c.before.before).some2
 
-div-t7 : tie.Need-nonzero-div-t7
-div-t7 c = (are c.before.before).some1
+nonzero_div-result : tie.Need-nonzero_div-result
+nonzero_div-result c = (are c.before.before).some1
 
-cast-t8 : tie.Need-overflow-cast-t8
-cast-t8 c = fit (arg (few0 c.before.before) tt)
+overflow_cast-result : tie.Need-overflow_cast-result
+overflow_cast-result c = fit (arg (few0 c.before.before) tt)
 
-div-t9 : tie.Need-nonzero-div-t9
-div-t9 c = (are c.before.before).some2
+nonzero_div-result-2 : tie.Need-nonzero_div-result-2
+nonzero_div-result-2 c = (are c.before.before).some2
 
-cast-t10 : tie.Need-overflow-cast-t10
-cast-t10 c = fit (arg (few1 c.before.before) tt)
+overflow_cast-result-2 : tie.Need-overflow_cast-result-2
+overflow_cast-result-2 c = fit (arg (few1 c.before.before) tt)
 
-div-t11 : tie.Need-nonzero-div-t11
-div-t11 c = (are c.before.before.before).some3
+nonzero_div-result-3 : tie.Need-nonzero_div-result-3
+nonzero_div-result-3 c = (are c.before.before.before).some3
 
-cast-t12 : tie.Need-overflow-cast-t12
-cast-t12 c = fit (arg (few2 c.before.before.before) tt)
+overflow_cast-result-3 : tie.Need-overflow_cast-result-3
+overflow_cast-result-3 c = fit (arg (few2 c.before.before.before) tt)
 
-rem-t13 : tie.Need-nonzero-rem-t13
-rem-t13 c = (are c.before.before.before.before).some3
+nonzero_rem-result : tie.Need-nonzero_rem-result
+nonzero_rem-result c = (are c.before.before.before.before).some3
 
-cast-t14 : tie.Need-overflow-cast-t14
-cast-t14 c = fit (arg (few3 c.before.before.before.before) tt)
+overflow_cast-result-4 : tie.Need-overflow_cast-result-4
+overflow_cast-result-4 c = fit (arg (few3 c.before.before.before.before) tt)
 
 returns : tie.Need-returns
 returns c =
@@ -78,4 +78,4 @@ returns c =
     )
 
 pub offset_spec : {M : Type 1} → statement M
-offset_spec = tie.close (tie.spec mul-behind-1 mul-behind-0 rem-k1 rem-k2 div-t7 cast-t8 div-t9 cast-t10 div-t11 cast-t12 rem-t13 cast-t14 returns)
+offset_spec = tie.close (tie.spec overflow_mul-behind_1 overflow_mul-behind_0 nonzero_rem-k1 nonzero_rem-k2 nonzero_div-result overflow_cast-result nonzero_div-result-2 overflow_cast-result-2 nonzero_div-result-3 overflow_cast-result-3 nonzero_rem-result overflow_cast-result-4 returns)

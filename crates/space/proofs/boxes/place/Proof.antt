@@ -20,25 +20,25 @@ module _ (s : tie.Start) where
   sized : Sized difference (entries s.args.p)
   sized = inside_sized s.args.b s.requires.0 s.requires.1 s.requires.2
 
-lengths-requires : tie.Need-lengths-requires
-lengths-requires c κs = search rules
+lengths-n-requires : tie.Need-lengths-n-requires
+lengths-n-requires c κs = search rules
 
-steps-each-requires : tie.Need-steps-each-requires
-steps-each-requires c κs = (sized_up (omega arith) c.before.before.requires.0, sized_up (omega arith) (sized c.before.before))
+steps_each-o-requires : tie.Need-steps_each-o-requires
+steps_each-o-requires c κs = (sized_up (omega arith) c.before.before.requires.0, sized_up (omega arith) (sized c.before.before))
 
 -- the most steps along a side
 abbrev far : ℕ
 far = difference + difference
 
 -- the lengths and the steps are small
-small_lengths : (c : tie.After-steps-each) → (c.before.before.lengths.result.n0 ≤ side_limit) × (c.before.before.lengths.result.n1 ≤ side_limit) × (c.before.before.lengths.result.n2 ≤ side_limit) × (c.before.before.lengths.result.n3 ≤ side_limit)
-small_lengths c = let s = c.before.before.before in lengths_small c.before.before.lengths.result s.args.b c.before.before.lengths.ensures s.requires.0 s.requires.1
+small_lengths : (c : tie.After-steps_each-o) → (c.before.before.lengths-n.result.n0 ≤ side_limit) × (c.before.before.lengths-n.result.n1 ≤ side_limit) × (c.before.before.lengths-n.result.n2 ≤ side_limit) × (c.before.before.lengths-n.result.n3 ≤ side_limit)
+small_lengths c = let s = c.before.before.before in lengths_small c.before.before.lengths-n.result s.args.b c.before.before.lengths-n.ensures s.requires.0 s.requires.1
 
-small_steps : (c : tie.After-steps-each) → (c.steps-each.result.n0 ≤ far) × (c.steps-each.result.n1 ≤ far) × (c.steps-each.result.n2 ≤ far) × (c.steps-each.result.n3 ≤ far)
+small_steps : (c : tie.After-steps_each-o) → (c.steps_each-o.result.n0 ≤ far) × (c.steps_each-o.result.n1 ≤ far) × (c.steps_each-o.result.n2 ≤ far) × (c.steps_each-o.result.n3 ≤ far)
 unfolding zip_with
 small_steps c =
     let s = c.before.before.before in
-    let o = unfour c.steps-each.ensures in
+    let o = unfour c.steps_each-o.ensures in
     let l = s.requires.0.each in
     let p = (sized s).each in (
       rw o.0 (steps_size _ _ l.0 p.0),
@@ -69,27 +69,27 @@ fits5 h k l m i j = fits_under (mul-le-mul (digit (digit h k l) m i) j) tt
 fits6 : {a n o p q r t : ℕ} → a ≤ far → n ≤ side_limit → o ≤ far → p ≤ side_limit → q ≤ far → r ≤ side_limit → t ≤ far → Fits w64 (((a * n + o) * p + q) * r + t)
 fits6 h k l m i j g = fits_under (digit (digit (digit h k l) m i) j g) tt
 
-mul-result : tie.Need-overflow-mul-result
-mul-result c = search (fits1, small_steps c.before.before, small_lengths c.before.before)
+overflow_mul-result : tie.Need-overflow_mul-result
+overflow_mul-result c = search (fits1, small_steps c.before.before, small_lengths c.before.before)
 
-add-result : tie.Need-overflow-add-result
-add-result c = search (fits2, small_steps c.before.before.before, small_lengths c.before.before.before)
+overflow_add-result : tie.Need-overflow_add-result
+overflow_add-result c = search (fits2, small_steps c.before.before.before, small_lengths c.before.before.before)
 
-mul-result-2 : tie.Need-overflow-mul-result-2
-mul-result-2 c = search (fits3, small_steps c.before.before.before.before, small_lengths c.before.before.before.before)
+overflow_mul-result-2 : tie.Need-overflow_mul-result-2
+overflow_mul-result-2 c = search (fits3, small_steps c.before.before.before.before, small_lengths c.before.before.before.before)
 
 -- where the steps are known
-abbrev after_steps_each : tie.After-struct-known5 → tie.After-steps-each
+abbrev after_steps_each : tie.After-struct_known-5-1 → tie.After-steps_each-o
 after_steps_each c = c.before.before.before.before.before
 
-add-result-2 : tie.Need-overflow-add-result-2
-add-result-2 c = search (fits4, small_steps (after_steps_each c), small_lengths (after_steps_each c))
+overflow_add-result-2 : tie.Need-overflow_add-result-2
+overflow_add-result-2 c = search (fits4, small_steps (after_steps_each c), small_lengths (after_steps_each c))
 
-mul-result-3 : tie.Need-overflow-mul-result-3
-mul-result-3 c = search (fits5, small_steps (after_steps_each c.before), small_lengths (after_steps_each c.before))
+overflow_mul-result-3 : tie.Need-overflow_mul-result-3
+overflow_mul-result-3 c = search (fits5, small_steps (after_steps_each c.before), small_lengths (after_steps_each c.before))
 
-add-result-3 : tie.Need-overflow-add-result-3
-add-result-3 c =
+overflow_add-result-3 : tie.Need-overflow_add-result-3
+overflow_add-result-3 c =
     let after_steps_each = after_steps_each c.before.before in
     search (fits6, small_steps after_steps_each, small_lengths after_steps_each)
 
@@ -97,9 +97,9 @@ returns : tie.Need-returns
 unfolding zip_with count_of place_of
 returns c =
     let after_steps_each = after_steps_each c.before.before in
-    let o = unfour after_steps_each.steps-each.ensures in
-    let n = unfour after_steps_each.before.before.lengths.ensures in
+    let o = unfour after_steps_each.steps_each-o.ensures in
+    let n = unfour after_steps_each.before.before.lengths-n.ensures in
     rw (← o.0, ← o.1, ← o.2, ← o.3, ← n.1, ← n.2, ← n.3) (omega arith)
 
 pub place_spec : {M : Type 1} → statement M
-place_spec = tie.close (tie.spec lengths-requires steps-each-requires mul-result add-result mul-result-2 add-result-2 mul-result-3 add-result-3 returns)
+place_spec = tie.close (tie.spec lengths-n-requires steps_each-o-requires overflow_mul-result overflow_add-result overflow_mul-result-2 overflow_add-result-2 overflow_mul-result-3 overflow_add-result-3 returns)

@@ -14,27 +14,27 @@ use Rattle.space.proofs.ExtremeLaws.{product_limit, least_is, greatest_is, least
 use Rattle.space.proofs.boxes.reach_of.Statement.{statement}
 use Rattle.space.proofs.boxes.reach_of.Tie as tie
 
-least-requires : tie.Need-least-requires
-least-requires c κs = let p = c.requires in (sized_up (omega arith) p.0, sized_up (omega arith) p.1, sized_up (omega arith) p.2, p.3)
+least-low-requires : tie.Need-least-low-requires
+least-low-requires c κs = let p = c.requires in (sized_up (omega arith) p.0, sized_up (omega arith) p.1, sized_up (omega arith) p.2, p.3)
 
-greatest-requires : tie.Need-greatest-requires
-greatest-requires c κs = let p = c.before.requires in (sized_up (omega arith) p.0, sized_up (omega arith) p.1, sized_up (omega arith) p.2, p.3)
+greatest-high-requires : tie.Need-greatest-high-requires
+greatest-high-requires c κs = let p = c.before.requires in (sized_up (omega arith) p.0, sized_up (omega arith) p.1, sized_up (omega arith) p.2, p.3)
 
-small : (c : tie.After-greatest) → Size product_limit c.before.least.result × Size product_limit c.greatest.result
+small : (c : tie.After-greatest-high) → Size product_limit c.before.least-low.result × Size product_limit c.greatest-high.result
 small c =
     let a = c.before.before.args in
     let p = c.before.before.requires in
-    ends_small refl p.0 (sides_sized a.b p.1 p.2) c.before.least.ensures c.greatest.ensures
+    ends_small refl p.0 (sides_sized a.b p.1 p.2) c.before.least-low.ensures c.greatest-high.ensures
 
 -- one past the greatest
-past : (c : tie.After-greatest) → Is (product_limit + 1) (c.greatest.result +ℤ pos 1) (held c.greatest.result +ℤ held (pos 1))
+past : (c : tie.After-greatest-high) → Is (product_limit + 1) (c.greatest-high.result +ℤ pos 1) (held c.greatest-high.result +ℤ held (pos 1))
 past c = add (arg (small c).1 tt) (lit 1 tt) tt
 
-add-steps-above : tie.Need-overflow-add-steps-above
-add-steps-above c = fit (past c)
+overflow_add-high : tie.Need-overflow_add-high
+overflow_add-high c = fit (past c)
 
-steps-above-requires : tie.Need-steps-above-requires
-steps-above-requires c κs =
+steps_above-requires : tie.Need-steps_above-requires
+steps_above-requires c κs =
     rw (as_held {b = product_limit} tt (small c).0, read (past c)) (size_up (omega arith) (small c).0, size_up (omega arith) (past c).sized)
 
 returns : tie.Need-returns
@@ -42,13 +42,13 @@ returns c =
     let a = c.before.before.before.args in
     let p = c.before.before.before.requires in
     let s = small c.before in
-    let low = as_held {b = product_limit} tt s.0 ∙ least_unique c.before.before.least.ensures (least_is (entries a.h) (box_of a.b) refl p.3) in
-    let high = as_held {b = product_limit} tt s.1 ∙ greatest_unique c.before.greatest.ensures (greatest_is (entries a.h) (box_of a.b) refl p.3) in
+    let low = as_held {b = product_limit} tt s.0 ∙ least_unique c.before.before.least-low.ensures (least_is (entries a.h) (box_of a.b) refl p.3) in
+    let high = as_held {b = product_limit} tt s.1 ∙ greatest_unique c.before.greatest-high.ensures (greatest_is (entries a.h) (box_of a.b) refl p.3) in
     record {
       low = low;
       high = high;
-      count = c.steps-above.ensures ∙ ap₂ steps low (read (past c.before) ∙ ap (λ (z : ℤ). z +ℤ pos 1) (sym (as_held {b = product_limit} tt s.1) ∙ high));
+      count = c.steps_above.ensures ∙ ap₂ steps low (read (past c.before) ∙ ap (λ (z : ℤ). z +ℤ pos 1) (sym (as_held {b = product_limit} tt s.1) ∙ high));
     }
 
 pub reach_of_spec : {M : Type 1} → statement M
-reach_of_spec = tie.close (tie.spec least-requires greatest-requires add-steps-above steps-above-requires returns)
+reach_of_spec = tie.close (tie.spec least-low-requires greatest-high-requires overflow_add-high steps_above-requires returns)

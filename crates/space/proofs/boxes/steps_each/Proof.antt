@@ -16,21 +16,21 @@ ask p q = (held_size tt p, held_size tt q)
 answer : {n : ℕ} {l x : ℤ} → Size limit l → Size limit x → n ≡ steps (held l) (held x) → n ≡ steps l x
 answer p q e = e ∙ ap₂ steps (as_held tt p) (as_held tt q)
 
-steps-above-requires : tie.Need-steps-above-requires
-steps-above-requires c κs = let p = c.before.before.requires in ask p.0.each.0 p.1.each.0
+steps_above-requires : tie.Need-steps_above-requires
+steps_above-requires c κs = let p = c.before.before.requires in ask p.0.each.0 p.1.each.0
 
 -- where the function starts
-abbrev start : tie.After-struct-told4 → tie.Start
+abbrev start : tie.After-struct_told-4-1 → tie.Start
 start c = c.before.before.before.before.before
 
-steps-above-requires-2 : tie.Need-steps-above-requires-2
-steps-above-requires-2 c κs = let p = (start c).requires in ask p.0.each.1.0 p.1.each.1.0
+steps_above-requires-2 : tie.Need-steps_above-requires-2
+steps_above-requires-2 c κs = let p = (start c).requires in ask p.0.each.1.0 p.1.each.1.0
 
-steps-above-requires-3 : tie.Need-steps-above-requires-3
-steps-above-requires-3 c κs = let p = (start c.before.before.before).requires in ask p.0.each.1.1.0 p.1.each.1.1.0
+steps_above-requires-3 : tie.Need-steps_above-requires-3
+steps_above-requires-3 c κs = let p = (start c.before.before.before).requires in ask p.0.each.1.1.0 p.1.each.1.1.0
 
-steps-above-requires-4 : tie.Need-steps-above-requires-4
-steps-above-requires-4 c κs = let p = (start c.before.before.before.before.before.before).requires in ask p.0.each.1.1.1.0 p.1.each.1.1.1.0
+steps_above-requires-4 : tie.Need-steps_above-requires-4
+steps_above-requires-4 c κs = let p = (start c.before.before.before.before.before.before).requires in ask p.0.each.1.1.1.0 p.1.each.1.1.1.0
 
 returns : tie.Need-returns
 unfolding zip_with
@@ -41,8 +41,8 @@ returns c =
     let pre = after_steps_above.before.before.before.requires in
     let l = pre.0.each in
     let x = pre.1.each in
-    four (answer l.0 x.0 after_steps_above.steps-above.ensures) (answer l.1.0 x.1.0 after_steps_above2.steps-above2.ensures)
-    (answer l.1.1.0 x.1.1.0 after_steps_above3.steps-above3.ensures) (answer l.1.1.1.0 x.1.1.1.0 c.steps-above4.ensures)
+    four (answer l.0 x.0 after_steps_above.steps_above.ensures) (answer l.1.0 x.1.0 after_steps_above2.steps_above-2.ensures)
+    (answer l.1.1.0 x.1.1.0 after_steps_above3.steps_above-3.ensures) (answer l.1.1.1.0 x.1.1.1.0 c.steps_above-4.ensures)
 
 pub steps_each_spec : {M : Type 1} → statement M
-steps_each_spec = tie.close (tie.spec steps-above-requires steps-above-requires-2 steps-above-requires-3 steps-above-requires-4 returns)
+steps_each_spec = tie.close (tie.spec steps_above-requires steps_above-requires-2 steps_above-requires-3 steps_above-requires-4 returns)

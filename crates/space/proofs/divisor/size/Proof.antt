@@ -15,7 +15,7 @@ flipped : (x : ℤ) → x <ℤ pos 0 → (negsuc 0 -ℤ x ≡ pos (mag x)) × (m
 flipped (pos n) h = absurd (omega int)
 flipped (negsuc n) h = (omega (int, difference (negsuc 0) (negsuc n)), omega arith)
 
-module _ (c : tie.Then1) where
+module _ (c : tie.Then-x-lt0) where
   whole : SFits w64 c.before.args.x
   whole = c.before.ranges.x
 
@@ -31,23 +31,23 @@ module _ (c : tie.Then1) where
   value : held (negsuc 0 -ℤ held c.before.args.x) ≡ pos (mag c.before.args.x)
   value = back fit ∙ is
 
-sub-result : tie.Need-overflow-sub-result
-sub-result c = fit c
+overflow_sub-result : tie.Need-overflow_sub-result
+overflow_sub-result c = fit c
 
-cast-result : tie.Need-overflow-cast-result
-cast-result c = let h = (whole c).sfits in rw (value c) (tt, record { fits = omega arith })
+overflow_cast-result : tie.Need-overflow_cast-result
+overflow_cast-result c = let h = (whole c).sfits in rw (value c) (tt, record { fits = omega arith })
 
-add-result : tie.Need-overflow-add-result
-add-result c = let h = (whole c).sfits in rw (value c) (record { fits = omega arith })
+overflow_add-result : tie.Need-overflow_add-result
+overflow_add-result c = let h = (whole c).sfits in rw (value c) (record { fits = omega arith })
 
-cast-result-2 : tie.Need-overflow-cast-result-2
-cast-result-2 c = cast_range c.before.ranges.x (omega tests)
+overflow_cast-result-else-x-lt0 : tie.Need-overflow_cast-result-else-x-lt0
+overflow_cast-result-else-x-lt0 c = cast_range c.before.ranges.x (omega tests)
 
-returns : tie.Need-returns
-returns c = rw (value c) (less c).1
+returns-then-x-lt0 : tie.Need-returns-then-x-lt0
+returns-then-x-lt0 c = rw (value c) (less c).1
 
-returns-2 : tie.Need-returns-2
-returns-2 c = ap nat_abs (back c.before.ranges.x)
+returns-else-x-lt0 : tie.Need-returns-else-x-lt0
+returns-else-x-lt0 c = ap nat_abs (back c.before.ranges.x)
 
 pub size_spec : {M : Type 1} → statement M
-size_spec = tie.close (tie.spec sub-result cast-result add-result cast-result-2 returns returns-2)
+size_spec = tie.close (tie.spec overflow_sub-result overflow_cast-result overflow_add-result overflow_cast-result-else-x-lt0 returns-then-x-lt0 returns-else-x-lt0)

@@ -19,49 +19,49 @@ ask y d sy sd p q n h = rw (as_held tt p, as_held tt q) ((sy, sd, p, q), (n, h))
 none : {b : ℤ} → Size limit b → of_z w64 b ≡ 0 → b ≡ pos 0
 none p e = zero_bits (fit (arg p tt)) e
 
-quotient-tried-requires : tie.Need-quotient-tried-requires
+quotient_tried-requires : tie.Need-quotient_tried-requires
 unfolding times_of
-quotient-tried-requires c κs =
+quotient_tried-requires c κs =
     let then1 = c.before.before in
     let s = then1.before.before.before in
     let p = s.requires in
     ask (entries s.args.y) (entries s.args.d) p.0 p.1 p.0.each.0 p.1.each.0
-    (λ e. then1.if1.true (ap (of_z w64) e)) (λ z e. same_entry 0 e)
+    (λ e. then1.if-d-ne0.true (ap (of_z w64) e)) (λ z e. same_entry 0 e)
 
-returns : tie.Need-returns
-returns c = search rules
+returns-then-d-ne0 : tie.Need-returns-then-d-ne0
+returns-then-d-ne0 c = search rules
 
 -- where the function starts
-abbrev start : tie.After-struct-told4 → tie.Start
+abbrev start : tie.After-struct_told-2-1 → tie.Start
 start c = c.before.before.before.before.before
 
-quotient-tried-requires-2 : tie.Need-quotient-tried-requires-2
+quotient_tried-requires-then-d-ne0-2 : tie.Need-quotient_tried-requires-then-d-ne0-2
 unfolding times_of
-quotient-tried-requires-2 c κs =
+quotient_tried-requires-then-d-ne0-2 c κs =
     let then2 = c.before.before in
     let s = start then2.before in
-    let p = s.pre in
+    let p = s.requires in
     ask (entries s.args.y) (entries s.args.d) p.0 p.1 p.0.each.1.0 p.1.each.1.0
-    (λ e. then2.if2.true (ap (of_z w64) e)) (λ z e. same_entry 1 e)
+    (λ e. then2.if-d-ne0-2.true (ap (of_z w64) e)) (λ z e. same_entry 1 e)
 
-returns-2 : tie.Need-returns-2
-returns-2 c = search rules
+returns-then-d-ne0-2 : tie.Need-returns-then-d-ne0-2
+returns-then-d-ne0-2 c = search rules
 
-quotient-tried-requires-3 : tie.Need-quotient-tried-requires-3
+quotient_tried-requires-then-d-ne0-3 : tie.Need-quotient_tried-requires-then-d-ne0-3
 unfolding times_of
-quotient-tried-requires-3 c κs =
+quotient_tried-requires-then-d-ne0-3 c κs =
     let then3 = c.before.before in
     let s = start then3.before.before.before.before in
-    let p = s.pre in
+    let p = s.requires in
     ask (entries s.args.y) (entries s.args.d) p.0 p.1 p.0.each.1.1.0 p.1.each.1.1.0
-    (λ e. then3.if3.true (ap (of_z w64) e)) (λ z e. same_entry 2 e)
+    (λ e. then3.if-d-ne0-3.true (ap (of_z w64) e)) (λ z e. same_entry 2 e)
 
-returns-3 : tie.Need-returns-3
-returns-3 c = search rules
+returns-then-d-ne0-3 : tie.Need-returns-then-d-ne0-3
+returns-then-d-ne0-3 c = search rules
 
-quotient-tried-requires-4 : tie.Need-quotient-tried-requires-4
+quotient_tried-requires-2 : tie.Need-quotient_tried-requires-2
 unfolding times_of
-quotient-tried-requires-4 c κs =
+quotient_tried-requires-2 c κs =
     let else3 = c.before.before in
     let else2 = else3.before.before.before in
     let else1 = else2.before.before.before in
@@ -69,11 +69,11 @@ quotient-tried-requires-4 c κs =
     let p = s.requires in
     let d = p.1.each in
     ask (entries s.args.y) (entries s.args.d) p.0 p.1 p.0.each.1.1.1.0 d.1.1.1.0
-    (last_nonzero (none d.0 else1.if1.false) (none d.1.0 else2.if2.false) (none d.1.1.0 else3.if3.false) p.2)
+    (last_nonzero (none d.0 else1.if-d-ne0.false) (none d.1.0 else2.if-d-ne0-2.false) (none d.1.1.0 else3.if-d-ne0-3.false) p.2)
     (λ z e. same_entry 3 e)
 
-returns-4 : tie.Need-returns-4
-returns-4 c = search rules
+returns : tie.Need-returns
+returns c = search rules
 
 pub multiple_of_spec : {M : Type 1} → statement M
-multiple_of_spec = tie.close (tie.spec quotient-tried-requires returns quotient-tried-requires-2 returns-2 quotient-tried-requires-3 returns-3 quotient-tried-requires-4 returns-4)
+multiple_of_spec = tie.close (tie.spec quotient_tried-requires returns-then-d-ne0 quotient_tried-requires-then-d-ne0-2 returns-then-d-ne0-2 quotient_tried-requires-then-d-ne0-3 returns-then-d-ne0-3 quotient_tried-requires-2 returns)

@@ -18,33 +18,33 @@ module _ (s : tie.Start) where
 
   -- a number that does is a / b
   only : (z : ℤ) → entries s.args.y ≡ times_of z (entries s.args.d) → quot_z s.args.a s.args.b ≡ z
-  only z e = whole_quot z s.args.b s.pre.1.0 (s.pre.1.1 z e)
+  only z e = whole_quot z s.args.b s.requires.1.0 (s.requires.1.1 z e)
 
-rem-if1 : tie.Need-nonzero-rem-if1
-rem-if1 c = div_need (arg c.requires.0.2 tt) (arg c.requires.0.3 tt) c.requires.1.0
+nonzero_rem-a : tie.Need-nonzero_rem-a
+nonzero_rem-a c = div_need (arg c.requires.0.2 tt) (arg c.requires.0.3 tt) c.requires.1.0
 
-returns : tie.Need-returns
-returns c z e =
+returns-then-a-b-ne0 : tie.Need-returns-then-a-b-ne0
+returns-then-a-b-ne0 c z e =
     let s = c.before in
-    c.if1.true (ap (of_z w64) ((rem (arg s.requires.0.2 tt) (arg s.requires.0.3 tt)).is ∙ whole_rem z s.args.b (s.requires.1.1 z e)))
+    c.if-a-b-ne0.true (ap (of_z w64) ((rem (arg s.requires.0.2 tt) (arg s.requires.0.3 tt)).is ∙ whole_rem z s.args.b (s.requires.1.1 z e)))
 
-div-z : tie.Need-nonzero-div-z
-div-z c = rem-if1 c.before
+nonzero_div-z : tie.Need-nonzero_div-z
+nonzero_div-z c = nonzero_rem-a c.before
 
 times-requires : tie.Need-times-requires
 times-requires c κs = let s = c.before in (rw (read (a_over_b s)) (a_over_b s).sized, search rules)
 
-is-same-requires : tie.Need-is-same-requires
-is-same-requires c κs = search rules
+is_same-requires : tie.Need-is_same-requires
+is_same-requires c κs = search rules
 
-returns-2 : tie.Need-returns-2
-returns-2 c = c.before.is_same.ensures.holds c.if2.true ∙ c.before.before.times.ensures
+returns-then-is_same : tie.Need-returns-then-is_same
+returns-then-is_same c = c.before.is_same.ensures.holds c.if-is_same.true ∙ c.before.before.times.ensures
 
-returns-3 : tie.Need-returns-3
-returns-3 c z e =
+returns-else-is_same : tie.Need-returns-else-is_same
+returns-else-is_same c z e =
     let s = c.before.before.before.before in
     let tried = c.before.before.times.ensures ∙ ap (λ (w : ℤ). times_of w (entries s.args.d)) (read (a_over_b s) ∙ only s z e) in
-    c.before.is_same.ensures.fails c.if2.false (e ∙ sym tried)
+    c.before.is_same.ensures.fails c.if-is_same.false (e ∙ sym tried)
 
 pub quotient_tried_spec : {M : Type 1} → statement M
-quotient_tried_spec = tie.close (tie.spec rem-if1 returns div-z times-requires is-same-requires returns-2 returns-3)
+quotient_tried_spec = tie.close (tie.spec nonzero_rem-a returns-then-a-b-ne0 nonzero_div-z times-requires is_same-requires returns-then-is_same returns-else-is_same)

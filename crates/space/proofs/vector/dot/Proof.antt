@@ -33,33 +33,33 @@ three_fit p q r s t u = fit (three p q r s t u)
 four_fit : {a b c d e f g h : ℤ} → Size limit a → Size limit b → Size limit c → Size limit d → Size limit e → Size limit f → Size limit g → Size limit h → SFits w64 (held (held a *ℤ held b) +ℤ held (held (held c *ℤ held d) +ℤ held (held (held e *ℤ held f) +ℤ held (held g *ℤ held h))))
 four_fit p q r s t u v w = fit (four p q r s t u v w)
 
-mul-result : tie.Need-overflow-mul-result
-mul-result c = search (rules, signed, c.before.before.before.before.requires)
+overflow_mul-result : tie.Need-overflow_mul-result
+overflow_mul-result c = search (rules, signed, c.before.before.before.before.requires)
 
 -- where the function starts: from where two entries of each are read, and from where all are
-abbrev start : tie.After-struct-told4 → tie.Start
+abbrev start : tie.After-struct_told-4-1 → tie.Start
 start c = c.before.before.before.before.before.before.before.before
 
-abbrev start2 : tie.After-struct-told8 → tie.Start
+abbrev start2 : tie.After-struct_told-8-1 → tie.Start
 start2 c = start c.before.before.before.before.before.before.before.before
 
-mul-result-2 : tie.Need-overflow-mul-result-2
-mul-result-2 c = search (rules, signed, (start c).requires)
+overflow_mul-result-2 : tie.Need-overflow_mul-result-2
+overflow_mul-result-2 c = search (rules, signed, (start c).requires)
 
-mul-result-3 : tie.Need-overflow-mul-result-3
-mul-result-3 c = search (rules, signed, (start c.before.before.before.before).requires)
+overflow_mul-result-3 : tie.Need-overflow_mul-result-3
+overflow_mul-result-3 c = search (rules, signed, (start c.before.before.before.before).requires)
 
-mul-result-4 : tie.Need-overflow-mul-result-4
-mul-result-4 c = search (rules, signed, (start2 c).requires)
+overflow_mul-result-4 : tie.Need-overflow_mul-result-4
+overflow_mul-result-4 c = search (rules, signed, (start2 c).requires)
 
-add-result : tie.Need-overflow-add-result
-add-result c = search (rules, two_fit, (start2 c).requires)
+overflow_add-result : tie.Need-overflow_add-result
+overflow_add-result c = search (rules, two_fit, (start2 c).requires)
 
-add-result-2 : tie.Need-overflow-add-result-2
-add-result-2 c = search (rules, three_fit, (start2 c).requires)
+overflow_add-result-2 : tie.Need-overflow_add-result-2
+overflow_add-result-2 c = search (rules, three_fit, (start2 c).requires)
 
-add-result-3 : tie.Need-overflow-add-result-3
-add-result-3 c = search (rules, four_fit, (start2 c).requires)
+overflow_add-result-3 : tie.Need-overflow_add-result-3
+overflow_add-result-3 c = search (rules, four_fit, (start2 c).requires)
 
 returns : tie.Need-returns
 unfolding dot_of
@@ -69,4 +69,4 @@ returns c =
     read (four h.0 x.0 h.1.0 x.1.0 h.1.1.0 x.1.1.0 h.1.1.1.0 x.1.1.1.0) ∙ simp +ℤ_idr
 
 pub dot_spec : {M : Type 1} → statement M
-dot_spec = tie.close (tie.spec mul-result mul-result-2 mul-result-3 mul-result-4 add-result add-result-2 add-result-3 returns)
+dot_spec = tie.close (tie.spec overflow_mul-result overflow_mul-result-2 overflow_mul-result-3 overflow_mul-result-4 overflow_add-result overflow_add-result-2 overflow_add-result-3 returns)

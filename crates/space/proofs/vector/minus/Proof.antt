@@ -12,24 +12,24 @@ use Rattle.space.proofs.vector.minus.Tie as tie
 one : {x y : ℤ} → Size limit x → Size limit y → Is (limit + limit) (x -ℤ y) (held x -ℤ held y)
 one p q = sub (arg p tt) (arg q tt) tt
 
-sub-t3 : tie.Need-overflow-sub-t3
-sub-t3 c = search (rules, signed, c.before.before.before.before.requires)
+overflow_sub-result : tie.Need-overflow_sub-result
+overflow_sub-result c = search (rules, signed, c.before.before.before.before.requires)
 
 -- where the function starts: from where two entries of each are read, and from where all are
-abbrev start : tie.After-struct-told4 → tie.Start
+abbrev start : tie.After-struct_told-4-1 → tie.Start
 start c = c.before.before.before.before.before.before.before.before
 
-abbrev start2 : tie.After-struct-told8 → tie.Start
+abbrev start2 : tie.After-struct_told-8-1 → tie.Start
 start2 c = start c.before.before.before.before.before.before.before.before
 
-sub-t4 : tie.Need-overflow-sub-t4
-sub-t4 c = search (rules, signed, (start c).requires)
+overflow_sub-result-2 : tie.Need-overflow_sub-result-2
+overflow_sub-result-2 c = search (rules, signed, (start c).requires)
 
-sub-t5 : tie.Need-overflow-sub-t5
-sub-t5 c = search (rules, signed, (start c.before.before.before.before).requires)
+overflow_sub-result-3 : tie.Need-overflow_sub-result-3
+overflow_sub-result-3 c = search (rules, signed, (start c.before.before.before.before).requires)
 
-sub-t6 : tie.Need-overflow-sub-t6
-sub-t6 c = search (rules, signed, (start2 c).requires)
+overflow_sub-result-4 : tie.Need-overflow_sub-result-4
+overflow_sub-result-4 c = search (rules, signed, (start2 c).requires)
 
 returns : tie.Need-returns
 unfolding minus_of
@@ -39,4 +39,4 @@ returns c =
     four (read (one q.0 p.0)) (read (one q.1.0 p.1.0)) (read (one q.1.1.0 p.1.1.0)) (read (one q.1.1.1.0 p.1.1.1.0))
 
 pub minus_spec : {M : Type 1} → statement M
-minus_spec = tie.close (tie.spec sub-t3 sub-t4 sub-t5 sub-t6 returns)
+minus_spec = tie.close (tie.spec overflow_sub-result overflow_sub-result-2 overflow_sub-result-3 overflow_sub-result-4 returns)

@@ -12,24 +12,24 @@ use Rattle.space.proofs.vector.plus.Tie as tie
 one : {x y : ℤ} → Size limit x → Size limit y → Is (limit + limit) (x +ℤ y) (held x +ℤ held y)
 one p q = add (arg p tt) (arg q tt) tt
 
-add-t3 : tie.Need-overflow-add-t3
-add-t3 c = search (rules, signed, c.before.before.before.before.requires)
+overflow_add-result : tie.Need-overflow_add-result
+overflow_add-result c = search (rules, signed, c.before.before.before.before.requires)
 
 -- where the function starts: from where two entries of each are read, and from where all are
-abbrev start : tie.After-struct-told4 → tie.Start
+abbrev start : tie.After-struct_told-4-1 → tie.Start
 start c = c.before.before.before.before.before.before.before.before
 
-abbrev start2 : tie.After-struct-told8 → tie.Start
+abbrev start2 : tie.After-struct_told-8-1 → tie.Start
 start2 c = start c.before.before.before.before.before.before.before.before
 
-add-t4 : tie.Need-overflow-add-t4
-add-t4 c = search (rules, signed, (start c).requires)
+overflow_add-result-2 : tie.Need-overflow_add-result-2
+overflow_add-result-2 c = search (rules, signed, (start c).requires)
 
-add-t5 : tie.Need-overflow-add-t5
-add-t5 c = search (rules, signed, (start c.before.before.before.before).requires)
+overflow_add-result-3 : tie.Need-overflow_add-result-3
+overflow_add-result-3 c = search (rules, signed, (start c.before.before.before.before).requires)
 
-add-t6 : tie.Need-overflow-add-t6
-add-t6 c = search (rules, signed, (start2 c).requires)
+overflow_add-result-4 : tie.Need-overflow_add-result-4
+overflow_add-result-4 c = search (rules, signed, (start2 c).requires)
 
 returns : tie.Need-returns
 unfolding plus_of
@@ -39,4 +39,4 @@ returns c =
     four (read (one p.0 q.0)) (read (one p.1.0 q.1.0)) (read (one p.1.1.0 q.1.1.0)) (read (one p.1.1.1.0 q.1.1.1.0))
 
 pub plus_spec : {M : Type 1} → statement M
-plus_spec = tie.close (tie.spec add-t3 add-t4 add-t5 add-t6 returns)
+plus_spec = tie.close (tie.spec overflow_add-result overflow_add-result-2 overflow_add-result-3 overflow_add-result-4 returns)
