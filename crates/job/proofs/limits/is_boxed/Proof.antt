@@ -14,30 +14,30 @@ use Rattle.job.specs.Limits.{bound_limit, point_limit}
 use Rattle.job.proofs.limits.is_boxed.Statement.{statement}
 use Rattle.job.proofs.limits.is_boxed.Tie as tie
 
-is-sized-requires : tie.Need-is-sized-requires
-is-sized-requires c κs = search rules
+is_sized-requires : tie.Need-is_sized-requires
+is_sized-requires c κs = search rules
 
-is-sized-requires-2 : tie.Need-is-sized-requires-2
-is-sized-requires-2 c κs = search rules
+is_sized-requires-2 : tie.Need-is_sized-requires-2
+is_sized-requires-2 c κs = search rules
 
 -- both bounds, as the first test asks
-both : (c : tie.After-is-sized2) → Tells (Sized bound_limit (entries c.before.before.before.before.args.b.low) × Sized bound_limit (entries c.before.before.before.before.args.b.high)) (c.before.is-sized.result && c.is-sized2.result)
-both c = tells_and _ _ c.before.is-sized.ensures c.is-sized2.ensures
+both : (c : tie.After-is_sized-2) → Tells (Sized bound_limit (entries c.before.before.before.before.args.b.low) × Sized bound_limit (entries c.before.before.before.before.args.b.high)) (c.before.is_sized.result && c.is_sized-2.result)
+both c = tells_and _ _ c.before.is_sized.ensures c.is_sized-2.ensures
 
-returns : tie.Need-returns
-returns c = record { holds = λ e. never (sym e); fails = λ e h. denied _ (both c.before) c.if1.true (h.low, h.high) }
+returns-then-not-is_sized : tie.Need-returns-then-not-is_sized
+returns-then-not-is_sized c = record { holds = λ e. never (sym e); fails = λ e h. denied _ (both c.before) c.if-not-is_sized.true (h.low, h.high) }
 
 contains-requires : tie.Need-contains-requires
 contains-requires c κs = search rules
 
 count-requires : tie.Need-count-requires
-count-requires c κs = let s = granted _ (both c.before.before) c.before.if1.false in (sized_up (omega arith) s.0, sized_up (omega arith) s.1)
+count-requires c κs = let s = granted _ (both c.before.before) c.before.if-not-is_sized.false in (sized_up (omega arith) s.0, sized_up (omega arith) s.1)
 
-returns-2 : tie.Need-returns-2
-returns-2 c =
+returns : tie.Need-returns
+returns c =
     let sized2 = c.before.before.before in
     let start = sized2.before.before.before.before in
-    let s = granted _ (both sized2) c.before.before.if1.false in
+    let s = granted _ (both sized2) c.before.before.if-not-is_sized.false in
     let B = box_of start.args.b in
     tells_as
     (λ h. record { low = s.0; high = s.1; solid = in_solid B _ h.0; points = rw c.count.ensures at h.1 })
@@ -45,4 +45,4 @@ returns-2 c =
     (tells_and _ _ c.before.contains.ensures (tells_le _ point_limit))
 
 pub is_boxed_spec : {M : Type 1} → statement M
-is_boxed_spec = tie.close (tie.spec is-sized-requires is-sized-requires-2 returns contains-requires count-requires returns-2)
+is_boxed_spec = tie.close (tie.spec is_sized-requires is_sized-requires-2 returns-then-not-is_sized contains-requires count-requires returns)

@@ -1,12 +1,8 @@
 -- Two tests for each count.
 use Rattle.space.proofs.Telling.{tells_and, tells_le}
-use Rattle.job.proofs.shape.are_counts.Statement.{statement}
-use Rattle.job.proofs.shape.are_counts.Tie as tie
+use Rattle.job.proofs.shape.are_counts.Goals as goal
 
-returns : tie.Need-returns
+pub returns : goal.returns
 returns c =
     tells_and _ _ (tells_and _ _ (tells_le 1 _) (tells_le _ 4))
     (tells_and _ _ (tells_and _ _ (tells_le 1 _) (tells_le _ 2)) (tells_and _ _ (tells_le 1 _) (tells_le _ 4)))
-
-pub are_counts_spec : {M : Type 1} → statement M
-are_counts_spec = tie.close (tie.spec returns)
