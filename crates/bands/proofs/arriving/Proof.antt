@@ -12,44 +12,44 @@ use Rattle.bands.proofs.BandLaws.{its_place}
 use Rattle.bands.proofs.arriving.Statement.{statement}
 use Rattle.bands.proofs.arriving.Tie as tie
 
-behind-requires : tie.Need-behind-requires
-behind-requires c κs = search rules
+behind-found-requires : tie.Need-behind-found-requires
+behind-found-requires c κs = search rules
 
-enum-known-found : tie.Need-enum-known-found
-enum-known-found c = search rules
+enum_known-found : tie.Need-enum_known-found
+enum_known-found c = search rules
 
 -- a cell y was found
-module _ (c : tie.After-found) where
+module _ (c : tie.In-At) where
   abbrev start : tie.Start
-  start = c.before.before.before.before
+  start = c.before.before.before
 
-  is : back_of (rectangle_of start.args.r) (hop_of start.args.b) start.args.x ≡ some c.found.given.0.0
-  is = sym c.before.before.behind.ensures ∙ ap found_of c.found.given.1
+  is : back_of (rectangle_of c.args.r) (hop_of c.args.b) c.args.x ≡ some c.in-At.y
+  is = sym c.behind-found.ensures ∙ ap found_of c.in-At.is
 
   -- its place
-  there : c.found.given.0.0 * start.args.b.w + start.args.slot < length start.args.places.now
-  there = its_place start.pre.0 c.found.given.0.0 (back_below (rectangle_of start.args.r) (hop_of start.args.b) start.args.x c.found.given.0.0 is)
+  there : c.in-At.y * c.args.b.w + c.args.slot < length c.args.places.now
+  there = its_place c.requires.0 c.in-At.y (back_below (rectangle_of c.args.r) (hop_of c.args.b) c.args.x c.in-At.y is)
 
-mul-i : tie.Need-overflow-mul-i
-mul-i c = let i = there c.before.before in omega arith
+overflow_mul-i : tie.Need-overflow_mul-i
+overflow_mul-i c = let i = there c.before in omega arith
 
-add-i : tie.Need-overflow-add-i
-add-i c = let i = there c.before.before in omega arith
+overflow_add-i : tie.Need-overflow_add-i
+overflow_add-i c = let i = there c.before in omega arith
 
-mul-result : tie.Need-overflow-mul-result
-mul-result c = let i = there c.before.before in omega arith
+offset_bounds-places-i : tie.Need-offset_bounds-places-i
+offset_bounds-places-i c = let i = there c.before in omega arith
 
-shared-slice-read-result : tie.Need-shared-slice-read-result
-shared-slice-read-result c = there c.before.before.before
+bounds-places-i : tie.Need-bounds-places-i
+bounds-places-i c = there c.before.before
 
-enum_told : tie.Need-enum-told
-enum_told c = search rules
+enum_told-1 : tie.Need-enum_told-1
+enum_told-1 c = search rules
 
-returns : tie.Need-returns
-returns c = let e = is c.before.before.before in rw e
+returns-in-At : tie.Need-returns-in-At
+returns-in-At c = let e = is c.before.before in rw e
 
-returns-2 : tie.Need-returns-2
-returns-2 c = let e = sym c.before.before.behind.ensures ∙ ap found_of c.enum_told.given.1 in rw e
+returns-in-Nowhere : tie.Need-returns-in-Nowhere
+returns-in-Nowhere c = let e = sym c.behind-found.ensures ∙ ap found_of c.in-Nowhere.is in rw e
 
 pub arriving_spec : {M : Type 1} → statement M
-arriving_spec = tie.close (tie.spec behind-requires enum-known-found mul-i add-i mul-result shared-slice-read-result enum_told returns returns-2)
+arriving_spec = tie.close (tie.spec behind-found-requires enum_known-found overflow_mul-i overflow_add-i offset_bounds-places-i bounds-places-i enum_told-1 returns-in-At returns-in-Nowhere)

@@ -19,86 +19,86 @@ use Rattle.bands.proofs.behind.Statement.{statement}
 use Rattle.bands.proofs.behind.Tie as tie
 
 -- what the code works out, as numbers
-module _ (c : tie.After-columns) where
+module _ (c : tie.After-columns-n) where
   abbrev start : tie.Start
   start = c.before
 
   abbrev n : ℕ
-  n = c.columns.result
+  n = c.columns-n.result
 
-  small : (0 < n) × (start.args.x / n ≤ limit + limit) × (start.args.x % n ≤ limit + limit)
-  small = few start.pre.0 start.args.x n c.columns.ensures start.pre.2
+  small : (0 < n) × (c.args.x / n ≤ limit + limit) × (c.args.x % n ≤ limit + limit)
+  small = few c.requires.0 c.args.x n c.columns-n.ensures c.requires.2
 
-  row : Is (limit + limit) (pos (start.args.x / n)) (pos (start.args.x / n))
+  row : Is (limit + limit) (pos (c.args.x / n)) (pos (c.args.x / n))
   row = arg (record { size = small.1 }) tt
 
-  column : Is (limit + limit) (pos (start.args.x % n)) (pos (start.args.x % n))
+  column : Is (limit + limit) (pos (c.args.x % n)) (pos (c.args.x % n))
   column = arg (record { size = small.2 }) tt
 
-  from0 : Is (limit + (limit + limit)) (start.args.r.low0 +ℤ pos (start.args.x / n)) (held start.args.r.low0 +ℤ held (pos (start.args.x / n)))
-  from0 = add (arg start.pre.0.rows.0 tt) row tt
+  from0 : Is (limit + (limit + limit)) (c.args.r.low0 +ℤ pos (c.args.x / n)) (held c.args.r.low0 +ℤ held (pos (c.args.x / n)))
+  from0 = add (arg c.requires.0.rows.0 tt) row tt
 
-  from1 : Is (limit + (limit + limit)) (start.args.r.low1 +ℤ pos (start.args.x % n)) (held start.args.r.low1 +ℤ held (pos (start.args.x % n)))
-  from1 = add (arg start.pre.0.columns.0 tt) column tt
+  from1 : Is (limit + (limit + limit)) (c.args.r.low1 +ℤ pos (c.args.x % n)) (held c.args.r.low1 +ℤ held (pos (c.args.x % n)))
+  from1 = add (arg c.requires.0.columns.0 tt) column tt
 
   -- the cell one hop back
   abbrev y0 : ℤ
-  y0 = start.args.r.low0 +ℤ pos (start.args.x / n) -ℤ start.args.b.hop0
+  y0 = c.args.r.low0 +ℤ pos (c.args.x / n) -ℤ c.args.b.hop0
 
   abbrev y1 : ℤ
-  y1 = start.args.r.low1 +ℤ pos (start.args.x % n) -ℤ start.args.b.hop1
+  y1 = c.args.r.low1 +ℤ pos (c.args.x % n) -ℤ c.args.b.hop1
 
-  to0 : Is (limit + (limit + limit) + limit) y0 (held (held start.args.r.low0 +ℤ held (pos (start.args.x / n))) -ℤ held start.args.b.hop0)
-  to0 = sub from0 (arg start.pre.1.rows tt) tt
+  to0 : Is (limit + (limit + limit) + limit) y0 (held (held c.args.r.low0 +ℤ held (pos (c.args.x / n))) -ℤ held c.args.b.hop0)
+  to0 = sub from0 (arg c.requires.1.rows tt) tt
 
-  to1 : Is (limit + (limit + limit) + limit) y1 (held (held start.args.r.low1 +ℤ held (pos (start.args.x % n))) -ℤ held start.args.b.hop1)
-  to1 = sub from1 (arg start.pre.1.columns tt) tt
+  to1 : Is (limit + (limit + limit) + limit) y1 (held (held c.args.r.low1 +ℤ held (pos (c.args.x % n))) -ℤ held c.args.b.hop1)
+  to1 = sub from1 (arg c.requires.1.columns tt) tt
 
   abbrev cell : List ℤ
   cell = y0 ∷ y1 ∷ []
 
   -- what the definition says, where the test answers b
-  found : (b : Bool) → Tells (In (rectangle_of start.args.r) cell) b → cond b (some (place_of (rectangle_of start.args.r) cell)) none ≡ back_of (rectangle_of start.args.r) (hop_of start.args.b) start.args.x
+  found : (b : Bool) → Tells (In (rectangle_of c.args.r) cell) b → cond b (some (place_of (rectangle_of c.args.r) cell)) none ≡ back_of (rectangle_of c.args.r) (hop_of c.args.b) c.args.x
   found b t =
-      let r = start.args.r in
-      back_told (rectangle_of r) (hop_of start.args.b) start.args.x cell b (cell_back (side r.low0 r.high0) (side r.low1 r.high1) start.args.b.hop0 start.args.b.hop1 start.args.x n c.columns.ensures) t
+      let r = c.args.r in
+      back_told (rectangle_of r) (hop_of c.args.b) c.args.x cell b (cell_back (side r.low0 r.high0) (side r.low1 r.high1) c.args.b.hop0 c.args.b.hop1 c.args.x n c.columns-n.ensures) t
 
 -- where the code stands on its way: the row less the hop, the column less the hop, the two tests
-abbrev first : tie.After-struct-told2 → tie.After-columns
+abbrev first : tie.After-struct_told-2-1 → tie.After-columns-n
 first c = c.before.before.before.before
 
-abbrev second : tie.After-struct-told4 → tie.After-columns
-second c = first c.before.before.before.before
+abbrev second : tie.After-struct_told-4-1 → tie.After-columns-n
+second c = c.before.before.before.before.before.before.before.before
 
-abbrev tested : tie.After-within2 → tie.After-columns
-tested c = let one = c.before.before.before in second one.before.before.before
+abbrev tested : tie.After-within-2 → tie.After-columns-n
+tested c = c.before.before.before.before.before.before.before.before.before.before.before.before.before.before
 
-columns-requires : tie.Need-columns-requires
-columns-requires c κs = search rules
+columns-n-requires : tie.Need-columns-n-requires
+columns-n-requires c κs = search rules
 
-div-y0 : tie.Need-nonzero-div-y0
-div-y0 c = (small c).0
+nonzero_div-y0 : tie.Need-nonzero_div-y0
+nonzero_div-y0 c = (small c).0
 
-cast-y0 : tie.Need-overflow-cast-y0
-cast-y0 c = fit (row c)
+overflow_cast-y0 : tie.Need-overflow_cast-y0
+overflow_cast-y0 c = fit (row c)
 
-add-y0 : tie.Need-overflow-add-y0
-add-y0 c = fit (from0 c.before.before)
+overflow_add-y0 : tie.Need-overflow_add-y0
+overflow_add-y0 c = fit (from0 c.before.before)
 
-sub-y0 : tie.Need-overflow-sub-y0
-sub-y0 c = fit (to0 (first c))
+overflow_sub-y0 : tie.Need-overflow_sub-y0
+overflow_sub-y0 c = fit (to0 c.before.before.before.before)
 
-rem-y1 : tie.Need-nonzero-rem-y1
-rem-y1 c = (small (first c)).0
+nonzero_rem-y1 : tie.Need-nonzero_rem-y1
+nonzero_rem-y1 c = (small c.before.before.before.before).0
 
-cast-y1 : tie.Need-overflow-cast-y1
-cast-y1 c = fit (column (first c))
+overflow_cast-y1 : tie.Need-overflow_cast-y1
+overflow_cast-y1 c = fit (column c.before.before.before.before)
 
-add-y1 : tie.Need-overflow-add-y1
-add-y1 c = fit (from1 (first c.before.before))
+overflow_add-y1 : tie.Need-overflow_add-y1
+overflow_add-y1 c = fit (from1 c.before.before.before.before.before.before)
 
-sub-y1 : tie.Need-overflow-sub-y1
-sub-y1 c = fit (to1 (second c))
+overflow_sub-y1 : tie.Need-overflow_sub-y1
+overflow_sub-y1 c = fit (to1 c.before.before.before.before.before.before.before.before)
 
 within-requires : tie.Need-within-requires
 within-requires c κs = search rules
@@ -111,29 +111,24 @@ of_within : {b : ℕ} {l y u v : ℤ} {r : Bool} → Size limit l → Is b y v �
 of_within f g h t = rw (as_held tt f, read g, as_held tt h) at t
 
 -- whether the cell is in the rectangle
-told : (c : tie.After-within2) → Tells (In (rectangle_of (start (tested c)).args.r) (cell (tested c))) (c.before.before.before.within.result && c.within2.result)
+told : (c : tie.After-within-2) → Tells (In (rectangle_of c.args.r) (cell c.before.before.before.before.before.before.before.before.before.before.before.before.before.before)) (c.within.result && c.within-2.result)
 told c =
-    let s = start (tested c) in
-    let r = s.args.r in
-    let f = s.pre.0 in
-    told_in _ _ (side r.low0 r.high0) (side r.low1 r.high1 ∷ []) (y0 (tested c)) (y1 (tested c) ∷ [])
-    (of_within f.rows.0 (to0 (tested c)) f.rows.1 c.before.before.before.within.ensures)
-    (told_last (side r.low1 r.high1) (y1 (tested c)) (of_within f.columns.0 (to1 (tested c)) f.columns.1 c.within2.ensures))
+    let r = c.args.r in
+    let f = c.requires.0 in
+    told_in _ _ (side r.low0 r.high0) (side r.low1 r.high1 ∷ []) (y0 c.before.before.before.before.before.before.before.before.before.before.before.before.before.before) (y1 c.before.before.before.before.before.before.before.before.before.before.before.before.before.before ∷ [])
+    (of_within f.rows.0 (to0 c.before.before.before.before.before.before.before.before.before.before.before.before.before.before) f.rows.1 c.within.ensures)
+    (told_last (side r.low1 r.high1) (y1 c.before.before.before.before.before.before.before.before.before.before.before.before.before.before) (of_within f.columns.0 (to1 c.before.before.before.before.before.before.before.before.before.before.before.before.before.before) f.columns.1 c.within-2.ensures))
 
-number-of-requires : tie.Need-number-of-requires
-number-of-requires c κs =
-    let at = tested c.before in
-    ((start at).pre.0, subst (In _) (sym (two (read (to0 at)) (read (to1 at)))) ((told c.before).holds c.if1.true))
+number_of-requires : tie.Need-number_of-requires
+number_of-requires c κs =
+    (c.requires.0, subst (In _) (sym (two (read (to0 c.before.before.before.before.before.before.before.before.before.before.before.before.before.before.before)) (read (to1 c.before.before.before.before.before.before.before.before.before.before.before.before.before.before.before)))) ((told c.before).holds c.if-within.true))
 
-returns : tie.Need-returns
-returns c =
-    let both = c.before.before in
-    let at = tested both in
-    ap some (c.number-of.ensures ∙ ap (place_of _) (two (read (to0 at)) (read (to1 at)))) ∙ found at true (subst (Tells _) c.before.if1.true (told both))
+returns-then-within : tie.Need-returns-then-within
+returns-then-within c =
+    ap some (c.number_of.ensures ∙ ap (place_of _) (two (read (to0 c.before.before.before.before.before.before.before.before.before.before.before.before.before.before.before.before)) (read (to1 c.before.before.before.before.before.before.before.before.before.before.before.before.before.before.before.before)))) ∙ found c.before.before.before.before.before.before.before.before.before.before.before.before.before.before.before.before true (subst (Tells _) c.if-within.true (told c.before.before))
 
-returns-2 : tie.Need-returns-2
-returns-2 c = found (tested c.before) false (subst (Tells _) c.if1.false (told c.before))
+returns-else-within : tie.Need-returns-else-within
+returns-else-within c = found c.before.before.before.before.before.before.before.before.before.before.before.before.before.before.before false (subst (Tells _) c.if-within.false (told c.before))
 
 pub behind_spec : {M : Type 1} → statement M
-behind_spec =
-    tie.close (tie.spec columns-requires div-y0 cast-y0 add-y0 sub-y0 rem-y1 cast-y1 add-y1 sub-y1 within-requires within-requires-2 number-of-requires returns returns-2)
+behind_spec = tie.close (tie.spec columns-n-requires nonzero_div-y0 overflow_cast-y0 overflow_add-y0 overflow_sub-y0 nonzero_rem-y1 overflow_cast-y1 overflow_add-y1 overflow_sub-y1 within-requires within-requires-2 number_of-requires returns-then-within returns-else-within)

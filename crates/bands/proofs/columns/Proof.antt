@@ -18,21 +18,20 @@ module _ (s : tie.Start) where
 
   level : s.args.r.low1 ≤ℤ s.args.r.high1
   unfolding Solid
-  level = s.pre.solid.1.0
+  level = s.requires.solid.1.0
 
-sub-result : tie.Need-overflow-sub-result
-sub-result c = fit (wide c.before.before)
+overflow_sub-result : tie.Need-overflow_sub-result
+overflow_sub-result c = fit (wide c.before.before)
 
-cast-result : tie.Need-overflow-cast-result
-cast-result c = let s = c.before.before in let l = level s in cast_need (wide s) (omega (int, difference s.args.r.high1 s.args.r.low1))
+overflow_cast-result : tie.Need-overflow_cast-result
+overflow_cast-result c = let l = level c.before.before in cast_need (wide c.before.before) (omega (int, difference c.args.r.high1 c.args.r.low1))
 
-add-result : tie.Need-overflow-add-result
-add-result c = let s = c.before.before in let e = ap nat_abs (read (wide s)) in omega (arith, (wide s).sized.size)
+overflow_add-result : tie.Need-overflow_add-result
+overflow_add-result c = let e = ap nat_abs (read (wide c.before.before)) in omega (arith, (wide c.before.before).sized.size)
 
 returns : tie.Need-returns
 returns c =
-    let s = c.before.before in
-    ap (λ (z : ℤ). nat_abs z + 1) (read (wide s)) ∙ columns_are s.args.r.low1 s.args.r.high1 (level s)
+    ap (λ (z : ℤ). nat_abs z + 1) (read (wide c.before.before)) ∙ columns_are c.args.r.low1 c.args.r.high1 (level c.before.before)
 
 pub columns_spec : {M : Type 1} → statement M
-columns_spec = tie.close (tie.spec sub-result cast-result add-result returns)
+columns_spec = tie.close (tie.spec overflow_sub-result overflow_cast-result overflow_add-result returns)

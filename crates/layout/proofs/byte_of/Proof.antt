@@ -11,22 +11,22 @@ use Rattle.layout.proofs.byte_of.Tie as tie
 more : (c : tie.Start) → Is 384 (c.args.z +ℤ pos 256) (held c.args.z +ℤ pos 256)
 more c = add (arg (in_size c.requires) tt) (lit 256 tt) tt
 
-add-result : tie.Need-overflow-add-result
-add-result c = fit (more c.before)
+overflow_add-result : tie.Need-overflow_add-result
+overflow_add-result c = fit (more c.before)
 
-cast-result : tie.Need-overflow-cast-result
-cast-result c =
+overflow_cast-result : tie.Need-overflow_cast-result
+overflow_cast-result c =
     let z = c.before.args.z in
     cast_to w8 (more c.before) (omega (tests, sum z (pos 256))) (omega (tests, sum z (pos 256), magnitude (z +ℤ pos 256)))
 
-cast-result-2 : tie.Need-overflow-cast-result-2
-cast-result-2 c = cast_to w8 (arg (in_size c.before.requires) tt) (omega tests) (omega (tests, magnitude c.before.args.z))
+overflow_cast-result-else-z-lt0 : tie.Need-overflow_cast-result-else-z-lt0
+overflow_cast-result-else-z-lt0 c = cast_to w8 (arg (in_size c.before.requires) tt) (omega tests) (omega (tests, magnitude c.before.args.z))
 
-returns : tie.Need-returns
-returns c = ap nat_abs (read (more c.before)) ∙ byte_negative c.before.args.z c.before.requires (omega tests)
+returns-then-z-lt0 : tie.Need-returns-then-z-lt0
+returns-then-z-lt0 c = ap nat_abs (read (more c.before)) ∙ byte_negative c.before.args.z c.before.requires (omega tests)
 
-returns-2 : tie.Need-returns-2
-returns-2 c = ap nat_abs (back c.before.ranges.z) ∙ byte_positive c.before.args.z (omega tests)
+returns-else-z-lt0 : tie.Need-returns-else-z-lt0
+returns-else-z-lt0 c = ap nat_abs (back c.before.ranges.z) ∙ byte_positive c.before.args.z (omega tests)
 
 pub byte_of_spec : {M : Type 1} → statement M
-byte_of_spec = tie.close (tie.spec add-result cast-result cast-result-2 returns returns-2)
+byte_of_spec = tie.close (tie.spec overflow_add-result overflow_cast-result overflow_cast-result-else-z-lt0 returns-then-z-lt0 returns-else-z-lt0)

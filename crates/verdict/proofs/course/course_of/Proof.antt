@@ -18,13 +18,12 @@ use Rattle.verdict.proofs.Meetings.{course_sized, hops_sized, g_answered}
 use Rattle.verdict.proofs.course.course_of.Statement.{statement}
 use Rattle.verdict.proofs.course.course_of.Tie as tie
 
-stream-at-requires : tie.Need-stream-at-requires
-stream-at-requires c κs = search rules
+stream_at-t-requires : tie.Need-stream_at-t-requires
+stream_at-t-requires c κs = search rules
 
-time-and-place-requires : tie.Need-time-and-place-requires
-time-and-place-requires c κs =
-    let s = c.before.before in
-    (s.requires.0, subst (λ (t : Stream). Sized difference (entries t.d)) (sym c.before.stream_at.ensures) (along_sized s.args.j s.requires.0 s.args.s s.requires.1))
+time_and_place-v-requires : tie.Need-time_and_place-v-requires
+time_and_place-v-requires c κs =
+    (c.requires.0, subst (λ (t : Stream). Sized difference (entries t.d)) (sym c.stream_at-t.ensures) (along_sized c.args.j c.requires.0 c.args.s c.requires.1))
 
 size-requires : tie.Need-size-requires
 size-requires c κs = search rules
@@ -32,72 +31,68 @@ size-requires c κs = search rules
 size-requires-2 : tie.Need-size-requires-2
 size-requires-2 c κs = search rules
 
-gcd-requires : tie.Need-gcd-requires
-gcd-requires c κs = search rules
+gcd-g-requires : tie.Need-gcd-g-requires
+gcd-g-requires c κs = search rules
 
-or-one-requires : tie.Need-or-one-requires
-or-one-requires c κs = search rules
+or_one-n-requires : tie.Need-or_one-n-requires
+or_one-n-requires c κs = search rules
 
-module _ (c : tie.After-or-one) where
+module _ (c : tie.After-or_one-n) where
   -- the products, and the start before them
-  abbrev products : tie.After-time-and-place
-  products = let sizes = c.before.before in sizes.before.before.before.before
+  abbrev products : tie.After-time_and_place-v
+  products = c.before.before.before.before.before.before
 
   abbrev start : tie.Start
-  start = products.before.before.before
+  start = c.before.before.before.before.before.before.before.before.before
 
   abbrev j : Job
-  j = start.args.j
+  j = c.args.j
 
   abbrev s : ℕ
-  s = start.args.s
+  s = c.args.s
 
   -- Hd and Sd are small, and what is read back of them is they
   small : Sized limit (time_and_place j (along j s))
-  small = course_sized j s start.pre.0 start.pre.1
+  small = course_sized j s c.requires.0 c.requires.1
 
-  whole : entries products.time-and-place.result ≡ time_and_place j (along j s)
-  whole = products.time-and-place.ensures ∙ ap (λ (t : Stream). time_and_place j (entries t.d)) products.before.before.stream_at.ensures
+  whole : entries c.time_and_place-v.result ≡ time_and_place j (along j s)
+  whole = c.time_and_place-v.ensures ∙ ap (λ (t : Stream). time_and_place j (entries t.d)) c.stream_at-t.ensures
 
-  time : Is limit (H j (along j s)) products.time-and-place.result.x0
+  time : Is limit (H j (along j s)) c.time_and_place-v.result.x0
   time = known (unfour whole).0 small.each.0 tt
 
-  first : Is limit (dot_of (entries j.row0) (along j s)) products.time-and-place.result.x1
+  first : Is limit (dot_of (entries j.row0) (along j s)) c.time_and_place-v.result.x1
   first = known (unfour whole).1 small.each.1.0 tt
 
-  second : Is limit (dot_of (entries j.row1) (along j s)) products.time-and-place.result.x2
+  second : Is limit (dot_of (entries j.row1) (along j s)) c.time_and_place-v.result.x2
   second = known (unfour whole).2 small.each.1.1.0 tt
 
   -- what is answered is g, and the hops
-  divisor : c.before.gcd.result ≡ g j s
-  divisor = g_answered j s _ _ _ (c.before.before.before.before.size.ensures ∙ ap nat_abs (read first)) (c.before.before.size2.ensures ∙ ap nat_abs (read second)) c.before.gcd.ensures
+  divisor : c.gcd-g.result ≡ g j s
+  divisor = g_answered j s _ _ _ (c.size.ensures ∙ ap nat_abs (read first)) (c.size-2.ensures ∙ ap nat_abs (read second)) c.gcd-g.ensures
 
-  steps : Is limit (pos (hops j s)) (pos c.or-one.result)
-  steps = known (ap pos (c.or-one.ensures ∙ ap or_one divisor)) (hops_sized j s start.pre.0 start.pre.1) tt
+  steps : Is limit (pos (hops j s)) (pos c.or_one-n.result)
+  steps = known (ap pos (c.or_one-n.ensures ∙ ap or_one divisor)) (hops_sized j s c.requires.0 c.requires.1) tt
 
   some : pos (hops j s) ≡ pos 0 → ⊥
   some e = hops_some j s (ap nat_abs e)
 
-cast-n : tie.Need-overflow-cast-n
-cast-n c = fit (steps c)
+overflow_cast-n : tie.Need-overflow_cast-n
+overflow_cast-n c = fit (steps c)
 
-div-t10 : tie.Need-nonzero-div-t10
-div-t10 c = let o = c.before.before in div_need (time o) (steps o) (some o)
+nonzero_div-result : tie.Need-nonzero_div-result
+nonzero_div-result c = div_need (time c.before.before) (steps c.before.before) (some c.before.before)
 
-div-t11 : tie.Need-nonzero-div-t11
-div-t11 c = let o = c.before.before.before.before in div_need (first o) (steps o) (some o)
+nonzero_div-result-2 : tie.Need-nonzero_div-result-2
+nonzero_div-result-2 c = div_need (first c.before.before.before.before) (steps c.before.before.before.before) (some c.before.before.before.before)
 
-div-t12 : tie.Need-nonzero-div-t12
-div-t12 c =
-    let first_done = c.before.before in
-    let o = first_done.before.before.before.before in
-    div_need (second o) (steps o) (some o)
+nonzero_div-result-3 : tie.Need-nonzero_div-result-3
+nonzero_div-result-3 c =
+    div_need (second c.before.before.before.before.before.before) (steps c.before.before.before.before.before.before) (some c.before.before.before.before.before.before)
 
 returns : tie.Need-returns
 returns c =
-    let first_done = c.before.before in
-    let o = first_done.before.before.before.before in
-    record { unit = four (read (quot (time o) (steps o))) (read (quot (first o) (steps o))) (read (quot (second o) (steps o))) refl; hops = divisor o }
+    record { unit = four (read (quot (time c.before.before.before.before.before.before) (steps c.before.before.before.before.before.before))) (read (quot (first c.before.before.before.before.before.before) (steps c.before.before.before.before.before.before))) (read (quot (second c.before.before.before.before.before.before) (steps c.before.before.before.before.before.before))) refl; hops = divisor c.before.before.before.before.before.before }
 
 pub course_of_spec : {M : Type 1} → statement M
-course_of_spec = tie.close (tie.spec stream-at-requires time-and-place-requires size-requires size-requires-2 gcd-requires or-one-requires cast-n div-t10 div-t11 div-t12 returns)
+course_of_spec = tie.close (tie.spec stream_at-t-requires time_and_place-v-requires size-requires size-requires-2 gcd-g-requires or_one-n-requires overflow_cast-n nonzero_div-result nonzero_div-result-2 nonzero_div-result-3 returns)

@@ -17,21 +17,19 @@ asked : (s : tie.Start) {h : List ℤ} → Sized row_limit h → Sized limit h �
 asked s p = (sized_up (omega arith) p, sized_up (omega arith) s.requires.1)
 
 dot-requires : tie.Need-dot-requires
-dot-requires c κs = let s = c.before.before.before in asked s (time_sized s.args.j s.requires.0)
+dot-requires c κs = asked c.before.before.before (time_sized c.args.j c.requires.0)
 
 dot-requires-2 : tie.Need-dot-requires-2
-dot-requires-2 c κs = let s = c.before.before.before.before in asked s (row0_sized s.args.j s.requires.0)
+dot-requires-2 c κs = asked c.before.before.before.before (row0_sized c.args.j c.requires.0)
 
 dot-requires-3 : tie.Need-dot-requires-3
 dot-requires-3 c κs =
-    let first = c.before.before in
-    let s = first.before.before.before in
-    asked s (row1_sized s.args.j s.requires.0)
+    asked c.before.before.before.before.before (row1_sized c.args.j c.requires.0)
 
 returns : tie.Need-returns
 returns c =
-    four (back (in_range c.before.before.dot.type-inv) ∙ c.before.before.dot.ensures) (back (in_range c.before.dot2.type-inv) ∙ c.before.dot2.ensures)
-    (back (in_range c.dot3.type-inv) ∙ c.dot3.ensures) refl
+    four (back (in_range c.dot.type_inv) ∙ c.dot.ensures) (back (in_range c.dot-2.type_inv) ∙ c.dot-2.ensures)
+    (back (in_range c.dot-3.type_inv) ∙ c.dot-3.ensures) refl
 
 pub time_and_place_spec : {M : Type 1} → statement M
 time_and_place_spec = tie.close (tie.spec dot-requires dot-requires-2 dot-requires-3 returns)

@@ -26,50 +26,48 @@ asked j a p = (sized_up (omega arith) p, low_sized j a, high_sized j a, solid j 
 small : (s : tie.Start) → Sized row_limit (entries s.args.j.time) × Sized row_limit (entries s.args.j.row0) × Sized row_limit (entries s.args.j.row1)
 small s = (time_sized s.args.j s.requires.0, row0_sized s.args.j s.requires.0, row1_sized s.args.j s.requires.0)
 
-reach-of-requires : tie.Need-reach-of-requires
-reach-of-requires c κs = let s = c.before in asked s.args.j s.requires.0 (search (small s))
+reach_of-rows-requires : tie.Need-reach_of-rows-requires
+reach_of-rows-requires c κs = asked c.args.j c.requires.0 (search (small c.before.before))
 
-reach-of-requires-2 : tie.Need-reach-of-requires-2
-reach-of-requires-2 c κs = let s = c.before.before in asked s.args.j s.requires.0 (search (small s))
+reach_of-columns-requires : tie.Need-reach_of-columns-requires
+reach_of-columns-requires c κs = asked c.args.j c.requires.0 (search (small c.before.before.before.before))
 
-reach-of-requires-3 : tie.Need-reach-of-requires-3
-reach-of-requires-3 c κs = let s = c.before.before.before in asked s.args.j s.requires.0 (search (small s))
+reach_of-clock-requires : tie.Need-reach_of-clock-requires
+reach_of-clock-requires c κs = asked c.args.j c.requires.0 (search (small c.before.before.before.before.before.before))
 
 -- the second row's reach and the start, seen from where the cells are counted
-abbrev columns : tie.After-struct-known2 → tie.After-reach-of2
-columns c = c.before.before.before
+abbrev columns : tie.After-struct_known-2-1 → tie.After-reach_of-columns
+columns c = c.before.before.before.before
 
-abbrev start : tie.After-struct-known2 → tie.Start
-start c = (columns c).before.before.before
+abbrev start : tie.After-struct_known-2-1 → tie.Start
+start c = c.before.before.before.before.before.before.before.before.before
 
 -- cells are few
-cells_few : (c : tie.After-struct-known2) → (columns c).before.reach_of.result.count * (columns c).reach-of2.result.count ≤ reach_limit * reach_limit
+cells_few : (c : tie.After-struct_known-2-1) → c.reach_of-rows.result.count * c.reach_of-columns.result.count ≤ reach_limit * reach_limit
 cells_few c =
-    let j = (start c).args.j in
-    let a = (start c).requires.0 in
-    mul-le-mul (le_trans (le_of_eq (columns c).before.reach_of.ensures.count) (across_small j a _ refl (row0_sized j a))) (le_trans (le_of_eq (columns c).reach-of2.ensures.count) (across_small j a _ refl (row1_sized j a)))
+    let j = c.args.j in
+    let a = c.requires.0 in
+    mul-le-mul (le_trans (le_of_eq c.reach_of-rows.ensures.count) (across_small j a _ refl (row0_sized j a))) (le_trans (le_of_eq c.reach_of-columns.ensures.count) (across_small j a _ refl (row1_sized j a)))
 
-mul-cells : tie.Need-overflow-mul-cells
-mul-cells c = fits_under (cells_few c) tt
+overflow_mul-cells : tie.Need-overflow_mul-cells
+overflow_mul-cells c = fits_under (cells_few c) tt
 
-all-delays-requires : tie.Need-all-delays-requires
-all-delays-requires c κs = search rules
+all_delays-requires : tie.Need-all_delays-requires
+all_delays-requires c κs = search rules
 
 -- the sum of the w is small
-delays_few : (c : tie.After-all-delays) → c.all-delays.result ≤ 4 * delay_limit
+delays_few : (c : tie.After-all_delays) → c.all_delays.result ≤ 4 * delay_limit
 delays_few c =
-    let s = start c.before in
-    let a = s.pre.0 in
-    omega (arith, c.all-delays.ensures, a.shaped.streams, delays_size s.args.j a s.args.j.m (omega arith))
+    let a = c.requires.0 in
+    omega (arith, c.all_delays.ensures, a.shaped.streams, delays_size c.args.j a c.args.j.m (omega arith))
 
-mul-t8 : tie.Need-overflow-mul-t8
-mul-t8 c = fits_under (mul-le-mul (cells_few c.before) (delays_few c)) tt
+overflow_mul-result : tie.Need-overflow_mul-result
+overflow_mul-result c = fits_under (mul-le-mul (cells_few c.before) (delays_few c)) tt
 
 returns : tie.Need-returns
 returns c =
-    let k = columns c.before in
-    let cells = ap₂ ◌*◌ k.before.reach_of.ensures.count k.reach-of2.ensures.count ∙ sym (cells_are (start c.before).args.j) in
-    record { cells = cells; ticks = c.before.before.before.reach-of3.ensures.count; room = ap₂ ◌*◌ cells c.all-delays.ensures }
+    let cells = ap₂ ◌*◌ c.reach_of-rows.ensures.count c.reach_of-columns.ensures.count ∙ sym (cells_are c.args.j) in
+    record { cells = cells; ticks = c.reach_of-clock.ensures.count; room = ap₂ ◌*◌ cells c.all_delays.ensures }
 
 pub extent_of_spec : {M : Type 1} → statement M
-extent_of_spec = tie.close (tie.spec reach-of-requires reach-of-requires-2 reach-of-requires-3 mul-cells all-delays-requires mul-t8 returns)
+extent_of_spec = tie.close (tie.spec reach_of-rows-requires reach_of-columns-requires reach_of-clock-requires overflow_mul-cells all_delays-requires overflow_mul-result returns)

@@ -18,77 +18,69 @@ use Rattle.verdict.proofs.FirstPairs.{link_by_gap, meets_meeting, no_pair_there,
 use Rattle.verdict.proofs.rules.collision_on.Statement.{statement}
 use Rattle.verdict.proofs.rules.collision_on.Tie as tie
 
-course-of-requires : tie.Need-course-of-requires
-course-of-requires c κs = c.requires
+course_of-c-requires : tie.Need-course_of-c-requires
+course_of-c-requires c κs = c.requires
+
+returns-then-c-eq0 : tie.Need-returns-then-c-eq0
+returns-then-c-eq0 c =
+    λ p q f h. h.moving (none_stationary c.args.j c.args.s (sym c.course_of-c.ensures.hops ∙ c.if-c-eq0.true))
+
+-- past the test the stream moves
+abbrev start : tie.Else-c-eq0 → tie.Start
+start c = c.before.before.before
+
+moving : (c : tie.Else-c-eq0) → Stationary c.args.j c.args.s → ⊥
+moving c t = c.if-c-eq0.false (c.course_of-c.ensures.hops ∙ stationary_none c.args.j c.args.s t)
+
+link_gap-link-requires : tie.Need-link_gap-link-requires
+link_gap-link-requires c κs = (c.requires.0, c.requires.1, moving c, c.course_of-c.ensures)
+
+enum_known-link : tie.Need-enum_known-link
+enum_known-link c = search rules
+
+enum_told-1 : tie.Need-enum_told-1
+enum_told-1 c = search rules
+
+returns-in_default : tie.Need-returns-in_default
+returns-in_default c =
+    let s = c.args in
+    let none = subst (FindsLink s.j s.s) c.in_default.is c.link_gap-link.ensures in
+    λ p q f h. no_pair_there (link_by_gap s.j s.s (moving c.before.before)) none p q (f, h)
+
+-- the link that was found
+abbrev call : tie.In-At → tie.After-link_gap-link
+call c = c.before
+
+found : (c : tie.In-At) → let s = c.args in FindsLink s.j s.s (FoundLink.At c.in-At.found)
+found c = let s = c.args in subst (FindsLink s.j s.s) c.in-At.is c.link_gap-link.ensures
+
+least_start-p-requires : tie.Need-least_start-p-requires
+least_start-p-requires c κs =
+    let j = c.args.j in
+    let a = c.requires.0 in
+    let apart = (found c.before.before).0.1 in
+    (low_sized j a, high_sized j a, apart_sized j.bounds _ (low_sized j a) (high_sized j a) apart, apart)
+
+plus-q-requires : tie.Need-plus-q-requires
+plus-q-requires c κs =
+    let j = c.args.j in
+    let a = c.requires.0 in (
+      sized_up (omega arith) (in_box_sized j a c.least_start-p.ensures.0.0),
+      sized_up (omega arith) (apart_sized j.bounds _ (low_sized j a) (high_sized j a) (found c.before.before.before).0.1),
+    )
 
 returns : tie.Need-returns
 returns c =
-    let course = c.before.before in
-    λ p q f h. h.moving (none_stationary course.before.args.j course.before.args.s (sym course.course-of.ensures.hops ∙ c.if1.true))
-
--- past the test the stream moves
-abbrev start : tie.Else1 → tie.Start
-start c = c.before.before.before
-
-moving : (c : tie.Else1) → Stationary (start c).args.j (start c).args.s → ⊥
-moving c t = c.if1.false (c.before.before.course-of.ensures.hops ∙ stationary_none (start c).args.j (start c).args.s t)
-
-link-gap-requires : tie.Need-link-gap-requires
-link-gap-requires c κs = ((start c).requires.0, (start c).requires.1, moving c, c.before.before.course-of.ensures)
-
-enum-known-link : tie.Need-enum-known-link
-enum-known-link c = search rules
-
-enum_told : tie.Need-enum-told
-enum_told c = search rules
-
-returns-2 : tie.Need-returns-2
-returns-2 c =
-    let call = c.before.before in
-    let s = (start call.before).args in
-    let none = subst (FindsLink s.j s.s) c.enum_told.given.1 call.link-gap.ensures in
-    λ p q f h. no_pair_there (link_by_gap s.j s.s (moving call.before)) none p q (f, h)
-
--- the link that was found
-abbrev call : tie.After-known-told → tie.After-link-gap
-call c = c.before.before.before
-
-found : (c : tie.After-known-told) → let s = (start (call c).before).args in FindsLink s.j s.s (FoundLink.At c.before.link.given.0.0)
-found c = let s = (start (call c).before).args in subst (FindsLink s.j s.s) c.before.link.given.1 (call c).link-gap.ensures
-
-least-start-requires : tie.Need-least-start-requires
-least-start-requires c κs =
-    let s = start (call c.before).before in
-    let j = s.args.j in
-    let a = s.pre.0 in
-    let apart = (found c.before).0.1 in
-    (low_sized j a, high_sized j a, apart_sized j.bounds _ (low_sized j a) (high_sized j a) apart, apart)
-
-plus-requires : tie.Need-plus-requires
-plus-requires c κs =
-    let link = c.before.before in
-    let s = start (call link).before in
-    let j = s.args.j in
-    let a = s.pre.0 in (
-      sized_up (omega arith) (in_box_sized j a c.least_start.ensures.0.0),
-      sized_up (omega arith) (apart_sized j.bounds _ (low_sized j a) (high_sized j a) (found link).0.1),
-    )
-
-returns-3 : tie.Need-returns-3
-returns-3 c =
-    let least = c.before.before in
-    let link = least.before.before in
-    let moves = (call link).before in
-    let j = (start moves).args.j in
-    let s = (start moves).args.s in
-    let l = link.before.link.given.0.0 in
+    let j = c.args.j in
+    let s = c.args.s in
+    let l = c.in-At.found in
     let y = entries l.gap in
-    let r = entries least.least_start.result in
-    let w = found link in
-    let at = least.least_start.ensures in
-    let first = first_pair (link_by_gap j s (moving moves)) y r w.0.0 w.0.1 w.0.2 w.0.3 at.0.0 at.0.1 at.1 in
-    let meet = meets_meeting j s r (plus_of r y) l.hops (moving moves) first.holds.1.pair (subst (λ (z : List _). CollidesBy j s z l.hops) (sym (minus_plus r y refl)) w.1) in
-    (refl, subst (λ (q : List _). FirstPair (CollidesSome j s) r q × Collides j s r q (held l.hops)) (sym c.before.plus.ensures) (first, subst (Collides j s r (plus_of r y)) (sym (back (in_range c.struct_told.given.1.0.1))) meet))
+    let r = entries c.least_start-p.result in
+    let w = found c.before.before.before.before.before in
+    let at = c.least_start-p.ensures in
+    let first = first_pair (link_by_gap j s (moving c.before.before.before.before.before.before.before)) y r w.0.0 w.0.1 w.0.2 w.0.3 at.0.0 at.0.1 at.1 in
+    let meet = meets_meeting j s r (plus_of r y) l.hops (moving c.before.before.before.before.before.before.before) first.holds.1.pair (subst (λ (z : List _). CollidesBy j s z l.hops) (sym (minus_plus r y refl)) w.1) in
+    (refl, subst (λ (q : List _). FirstPair (CollidesSome j s) r q × Collides j s r q (held l.hops)) (sym c.plus-q.ensures) (first, subst (Collides j s r (plus_of r y)) (sym (back (in_range c.struct_told-1.given.1.0.1))) meet))
 
 pub collision_on_spec : {M : Type 1} → statement M
-collision_on_spec = tie.close (tie.spec course-of-requires returns link-gap-requires enum-known-link enum_told returns-2 least-start-requires plus-requires returns-3)
+collision_on_spec = tie.close (tie.spec course_of-c-requires returns-then-c-eq0 link_gap-link-requires enum_known-link enum_told-1 returns-in_default least_start-p-requires plus-q-requires returns)

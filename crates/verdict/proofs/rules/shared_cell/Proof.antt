@@ -15,51 +15,49 @@ use Rattle.verdict.proofs.FirstPairs.{cell_by_gap, no_pair_there, first_pair}
 use Rattle.verdict.proofs.rules.shared_cell.Statement.{statement}
 use Rattle.verdict.proofs.rules.shared_cell.Tie as tie
 
-cell-gap-requires : tie.Need-cell-gap-requires
-cell-gap-requires c κs = search rules
+cell_gap-gap-requires : tie.Need-cell_gap-gap-requires
+cell_gap-gap-requires c κs = search rules
 
-enum-known-gap : tie.Need-enum-known-gap
-enum-known-gap c = search rules
+enum_known-gap : tie.Need-enum_known-gap
+enum_known-gap c = search rules
 
-enum_told : tie.Need-enum-told
-enum_told c = search rules
+enum_told-1 : tie.Need-enum_told-1
+enum_told-1 c = search rules
 
-returns : tie.Need-returns
-returns c =
-    let call = c.before.before in
-    no_pair_there (cell_by_gap call.before.args.j) (rw c.enum_told.given.1 at call.cell-gap.ensures)
+returns-in_default : tie.Need-returns-in_default
+returns-in_default c =
+    no_pair_there (cell_by_gap c.args.j) (rw c.in_default.is at c.cell_gap-gap.ensures)
 
 -- the start, and the difference that was found
-abbrev start : tie.After-known-told → tie.Start
-start c = c.before.before.before.before
+abbrev start : tie.In-At → tie.Start
+start c = c.before.before
 
-found : (c : tie.After-known-told) → FindsGap (Still (start c).args.j) (box (start c).args.j) (FoundGap.At c.before.gap.given.0.0)
-found c = rw c.before.gap.given.1 at c.before.before.before.cell-gap.ensures
+found : (c : tie.In-At) → FindsGap (Still c.args.j) (box c.args.j) (FoundGap.At c.in-At.y)
+found c = rw c.in-At.is at c.cell_gap-gap.ensures
 
-least-start-requires : tie.Need-least-start-requires
-least-start-requires c κs =
-    let j = (start c).args.j in
-    let a = (start c).requires in
-    let apart = (found c).1 in
+least_start-p-requires : tie.Need-least_start-p-requires
+least_start-p-requires c κs =
+    let j = c.args.j in
+    let a = c.requires in
+    let apart = (found c.before).1 in
     (low_sized j a, high_sized j a, apart_sized j.bounds _ (low_sized j a) (high_sized j a) apart, apart)
 
 -- the points are as small as the box, and the difference is twice that
-plus-requires : tie.Need-plus-requires
-plus-requires c κs =
-    let j = (start c.before).args.j in
-    let a = (start c.before).requires in (
-      sized_up (omega arith) (in_box_sized j a c.least_start.ensures.0.0),
-      sized_up (omega arith) (apart_sized j.bounds _ (low_sized j a) (high_sized j a) (found c.before).1),
+plus-q-requires : tie.Need-plus-q-requires
+plus-q-requires c κs =
+    let j = c.args.j in
+    let a = c.requires in (
+      sized_up (omega arith) (in_box_sized j a c.least_start-p.ensures.0.0),
+      sized_up (omega arith) (apart_sized j.bounds _ (low_sized j a) (high_sized j a) (found c.before.before).1),
     )
 
-returns-2 : tie.Need-returns-2
-returns-2 c =
-    let gap = c.before.before in
-    let j = (start gap).args.j in
-    let w = found gap in
-    let at = c.before.least_start.ensures in
-    subst (FirstPair (SameCell j) (entries c.before.least_start.result)) (sym c.plus.ensures)
+returns : tie.Need-returns
+returns c =
+    let j = c.args.j in
+    let w = found c.before.before.before in
+    let at = c.least_start-p.ensures in
+    subst (FirstPair (SameCell j) (entries c.least_start-p.result)) (sym c.plus-q.ensures)
     (first_pair (cell_by_gap j) _ _ w.0 w.1 w.2 w.3 at.0.0 at.0.1 at.1)
 
 pub shared_cell_spec : {M : Type 1} → statement M
-shared_cell_spec = tie.close (tie.spec cell-gap-requires enum-known-gap enum_told returns least-start-requires plus-requires returns-2)
+shared_cell_spec = tie.close (tie.spec cell_gap-gap-requires enum_known-gap enum_told-1 returns-in_default least_start-p-requires plus-q-requires returns)

@@ -26,69 +26,62 @@ way s = time_and_place s.args.j (entries s.args.y)
 abbrev one_hop : tie.Start → List ℤ
 one_hop s = unit_of s.args.j s.args.s
 
-time-and-place-requires : tie.Need-time-and-place-requires
-time-and-place-requires c κs = search rules
+time_and_place-requires : tie.Need-time_and_place-requires
+time_and_place-requires c κs = search rules
 
-multiple-of-requires : tie.Need-multiple-of-requires
-multiple-of-requires c κs =
-    let s = c.before.before in
-    let j = s.args.j in
-    let u = sym s.requires.3.unit in (
-      subst (Sized limit) (sym c.time-and-place.ensures) (placed_sized j s.requires.0 (entries s.args.y) s.requires.4),
-      subst (Sized limit) u (unit_sized j s.args.s s.requires.0 s.requires.1),
-      subst NonZero u (unit_nonzero j s.args.s s.requires.2),
+multiple_of-requires : tie.Need-multiple_of-requires
+multiple_of-requires c κs =
+    let j = c.args.j in
+    let u = sym c.requires.3.unit in (
+      subst (Sized limit) (sym c.time_and_place.ensures) (placed_sized j c.requires.0 (entries c.args.y) c.requires.4),
+      subst (Sized limit) u (unit_sized j c.args.s c.requires.0 c.requires.1),
+      subst NonZero u (unit_nonzero j c.args.s c.requires.2),
     )
 
-enum-known-f : tie.Need-enum-known-f
-enum-known-f c = search rules
+enum_known-f : tie.Need-enum_known-f
+enum_known-f c = search rules
 
-enum_told : tie.Need-enum-told
-enum_told c = search rules
+enum_told-1 : tie.Need-enum_told-1
+enum_told-1 c = search rules
 
 -- what `multiple_of` answers
-answer : (c : tie.After-multiple-of) {m : Multiple} → c.multiple-of.result ≡ m → TellsMultiple (way c.before.before.before) (one_hop c.before.before.before) m
-answer c e = answers_as c.before.time-and-place.ensures c.before.before.before.requires.3.unit e c.multiple-of.ensures
+answer : (c : tie.After-multiple_of) {m : Multiple} → c.multiple_of.result ≡ m → TellsMultiple (way c.before.before.before) (one_hop c.before.before.before) m
+answer c e = answers_as c.time_and_place.ensures c.requires.3.unit e c.multiple_of.ensures
 
-returns : tie.Need-returns
-returns c =
-    let call = c.before.before in
-    let s = call.before.before.before.args in
-    none_met s.j s.s (entries s.y) (answer call (tag_none call.multiple-of.result c.before.match.keys2))
+returns-in_default : tie.Need-returns-in_default
+returns-in_default c =
+    let s = c.args in
+    none_met s.j s.s (entries s.y) (answer c.before (tag_none c.multiple_of.result c.in_default.in_default-own.keys2))
 
 -- the call of `multiple_of` and the start, seen from the f that it answered
-abbrev call : tie.After-known-told → tie.After-multiple-of
-call c = c.before.before.before
+abbrev call : tie.In-Times → tie.After-multiple_of
+call c = c.before
 
-abbrev start : tie.After-known-told → tie.Start
-start c = (call c).before.before.before
+abbrev start : tie.In-Times → tie.Start
+start c = c.before.before.before.before
 
-is-collision-requires : tie.Need-is-collision-requires
-is-collision-requires c κs =
-    let s = start c in
-    let j = s.args.j in
-    let e = sym s.pre.5 in (
-      sized_up (omega arith) s.pre.4,
-      subst (λ (t : Stream). Sized limit (entries t.d)) e (sized_up (omega arith) (along_sized j s.pre.0 s.args.s s.pre.1)),
-      subst (λ (t : Stream). NonZero (entries t.d)) e (forward_nonzero _ (stream_sound j s.pre.0 s.args.s s.pre.1).forward),
+is_collision-requires : tie.Need-is_collision-requires
+is_collision-requires c κs =
+    let j = c.args.j in
+    let e = sym c.requires.5 in (
+      sized_up (omega arith) c.requires.4,
+      subst (λ (t : Stream). Sized limit (entries t.d)) e (sized_up (omega arith) (along_sized j c.requires.0 c.args.s c.requires.1)),
+      subst (λ (t : Stream). NonZero (entries t.d)) e (forward_nonzero _ (stream_sound j c.requires.0 c.args.s c.requires.1).forward),
     )
 
 -- the equation of f, as it is read back
-equation : (c : tie.After-known-told) → way (start c) ≡ times_of (held c.before.f.given.0.0) (one_hop (start c))
-equation c = rw (back (in_range c.known-told.given.0.1)) (answer (call c) c.before.f.given.1)
+equation : (c : tie.In-Times) → way c.before.before.before.before ≡ times_of (held c.in-Times.f) (one_hop c.before.before.before.before)
+equation c = rw (back (in_range c.in-Times.known_told-1-own.given.0.1)) (answer c.before c.in-Times.is)
 
-returns-2 : tie.Need-returns-2
-returns-2 c =
-    let told = c.before.before in
-    let s = start told in
-    met s.args.j s.args.s (entries s.args.y) (held told.before.f.given.0.0) s.pre.5 s.pre.3.hops (equation told)
-    c.before.is-collision.ensures c.if1.true
+returns-then-is_collision : tie.Need-returns-then-is_collision
+returns-then-is_collision c =
+    met c.args.j c.args.s (entries c.args.y) (held c.in-Times.f) c.requires.5 c.requires.3.hops (equation c.before.before.before)
+    c.is_collision.ensures c.if-is_collision.true
 
-returns-3 : tie.Need-returns-3
-returns-3 c =
-    let told = c.before.before in
-    let s = start told in
-    not_met s.args.j s.args.s (entries s.args.y) (held told.before.f.given.0.0) s.pre.5 s.pre.3.hops (equation told)
-    c.before.is-collision.ensures s.pre.2 c.if1.false
+returns-else-is_collision : tie.Need-returns-else-is_collision
+returns-else-is_collision c =
+    not_met c.args.j c.args.s (entries c.args.y) (held c.in-Times.f) c.requires.5 c.requires.3.hops (equation c.before.before.before)
+    c.is_collision.ensures c.requires.2 c.if-is_collision.false
 
 pub collision_hops_spec : {M : Type 1} → statement M
-collision_hops_spec = tie.close (tie.spec time-and-place-requires multiple-of-requires enum-known-f enum_told returns is-collision-requires returns-2 returns-3)
+collision_hops_spec = tie.close (tie.spec time_and_place-requires multiple_of-requires enum_known-f enum_told-1 returns-in_default is_collision-requires returns-then-is_collision returns-else-is_collision)

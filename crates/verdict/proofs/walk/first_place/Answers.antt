@@ -6,20 +6,10 @@ use Rattle.space.specs.Boxes.{box_of}
 use Rattle.space.proofs.BoxLaws.{sides_sized, place_below}
 use Rattle.job.specs.Record.{zero_vector}
 use Rattle.verdict.proofs.Gaps.{count_most}
-use Rattle.verdict.proofs.walk.first_place.Statement.{statement}
-use Rattle.verdict.proofs.walk.first_place.Tie as tie
+use Rattle.verdict.proofs.walk.first_place.Goals as goal
 
-place-requires : tie.Need-place-requires
-place-requires c κs = search rules
-
-add-result : tie.Need-overflow-add-result
-add-result c =
-    let b = c.before.args.b in
-    let p = c.before.requires in
+pub overflow_add-result : goal.overflow_add-result
+overflow_add-result c =
+    let b = c.args.b in
+    let p = c.requires in
     record { fits = omega (arith, count_most (box_of b) (sides_sized b p.0 p.1), place_below (box_of b) (entries zero_vector) p.2) }
-
-returns : tie.Need-returns
-returns c = search rules
-
-pub first_place_spec : {M : Type 1} → statement M
-first_place_spec = tie.close (tie.spec place-requires add-result returns)

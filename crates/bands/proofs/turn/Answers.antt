@@ -1,0 +1,6 @@
+-- By the flag.
+use borrow.Author.Rules.{rules}
+use Rattle.bands.proofs.turn.Goals as goal
+
+pub returns-then-falls : goal.returns-then-falls
+returns-then-falls c = rw c.if-falls.true
