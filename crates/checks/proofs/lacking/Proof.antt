@@ -16,11 +16,11 @@ size-of-requires : tie.Need-size-of-requires
 size-of-requires c κs = c.requires
 
 returns : tie.Need-returns
-returns c = record { first = inr (denied _ (tells_long c.before.before.args.j _ _ c.before.type_size.ensures.1) c.if1.true, refl); besides = tt }
+returns c = record { first = inr (denied _ (tells_long c.before.before.args.j _ _ c.before.size_of.ensures.1) c.if1.true, refl); besides = tt }
 
 -- both lengths are right
 right : (c : tie.Else1) → Long c.before.before.args.j c.before.before.args.input c.before.before.args.values
-right c = granted _ (tells_long c.before.before.args.j _ _ c.before.type_size.ensures.1) c.if1.false
+right c = granted _ (tells_long c.before.before.args.j _ _ c.before.size_of.ensures.1) c.if1.false
 
 returns-2 : tie.Need-returns-2
 returns-2 c = record { first = inl (right c.before.before, inr ((λ h. omega (arith, c.if2.true)), refl)); besides = refl }

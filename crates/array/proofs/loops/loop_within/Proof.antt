@@ -18,11 +18,11 @@ returns : tie.Need-returns
 returns c =
     let start = c.before.before.before.before in
     let a = start.args in
-    (table_refused a.j a.input.now a.values.now start.requires (denied _ (tells_long a.j _ _ c.before.type_size.ensures.1) c.if1.true), (λ e. omega arith), refl)
+    (table_refused a.j a.input.now a.values.now start.requires (denied _ (tells_long a.j _ _ c.before.size_of.ensures.1) c.if1.true), (λ e. omega arith), refl)
 
 -- past the test both lengths are right
 right : (c : tie.Else1) → let a = c.before.before.before.before.args in Long a.j (length a.input.now) (length a.values.now)
-right c = granted _ (tells_long c.before.before.before.before.args.j _ _ c.before.type_size.ensures.1) c.if1.false
+right c = granted _ (tells_long c.before.before.before.before.args.j _ _ c.before.size_of.ensures.1) c.if1.false
 
 count-requires : tie.Need-count-requires
 count-requires c κs = walkable c.before.before.before.before.requires

@@ -18,7 +18,7 @@ slice-aggregate-result c = search rules
 returns : tie.Need-returns
 returns c =
     let start = c.before.before.before.before in
-    other_length start.args.j _ _ (λ e. c.before.if1.true (e ∙ sym c.before.before.type_size.ensures.1))
+    other_length start.args.j _ _ (λ e. c.before.if1.true (e ∙ sym c.before.before.size_of.ensures.1))
 
 slice-aggregate-result-2 : tie.Need-slice-aggregate-result-2
 slice-aggregate-result-2 c = search rules
@@ -34,11 +34,11 @@ count-requires c κs =
     walkable sized.before.before.requires
 
 -- past all tests the row ends within the table, which is short
-ends : (c : tie.After-count) → let sized = c.before.before.before.before in (sized.before.before.args.s * c.count.result + c.count.result ≤ sized.type_size.result) × (sized.type_size.result ≤ 16384)
+ends : (c : tie.After-count) → let sized = c.before.before.before.before in (sized.before.before.args.s * c.count.result + c.count.result ≤ sized.size_of.result) × (sized.size_of.result ≤ 16384)
 ends c =
     let sized = c.before.before.before.before in
     let start = sized.before.before in
-    (omega (arith, sized.type_size.ensures.1, row_end start.args.j c.count.result c.count.ensures start.args.s c.before.if2.false), sized.type_size.ensures.0)
+    (omega (arith, sized.size_of.ensures.1, row_end start.args.j c.count.result c.count.ensures start.args.s c.before.if2.false), sized.size_of.ensures.0)
 
 mul-from : tie.Need-overflow-mul-from
 mul-from c = let h = ends c in fits_under {b = 16384} (omega arith) tt
@@ -63,7 +63,7 @@ returns-3 c =
     let counted = c.before in
     let tested = counted.before.before.before in
     let start = tested.before.before.before in
-    has_row start.args.j counted.count.result counted.count.ensures _ counted.before.if2.false _ start.requires (tested.if1.false ∙ tested.before.type_size.ensures.1)
+    has_row start.args.j counted.count.result counted.count.ensures _ counted.before.if2.false _ start.requires (tested.if1.false ∙ tested.before.size_of.ensures.1)
 
 pub row_within_spec : {M : Type 1} → statement M
 row_within_spec = tie.close (tie.spec size-of-requires slice-aggregate-result returns slice-aggregate-result-2 returns-2 count-requires mul-from add-end mul-result sub-result part-result-start part-result-end returns-3)

@@ -87,7 +87,7 @@ loop-again : tie.Need-loop-preserved invariant-loop decreases-loop
 loop-again c =
     let a = (start (turn c)).args in
     let l = (turn c).before.loop in
-    (omega (arith, (turn c).loop-test.true), subst (λ i. Column a.j a.k a.got a.values.now (l.s + 1) (set l.values i c.before.new-value.result)) (sym (at c)) (column_step a.j a.k a.got a.values.now l.values l.s c.before.new-value.result l.inv.1 (turn c).loop-test.true (low (turn c)) (new c)))
+    (omega (arith, (turn c).loop-test.true), subst (λ i. Column a.j a.k a.got a.values.now (l.s + 1) (set l.values i c.before.new-value.result)) (sym (at c)) (column_step a.j a.k a.got a.values.now l.values l.s c.before.new-value.result l.invariant.1 (turn c).loop-test.true (low (turn c)) (new c)))
 
 same_length : tie.Need-same-length invariant-loop decreases-loop
 same_length c = c.before.loop.invariant.1.size ∙ sym c.before.before.before.requires.0.size
