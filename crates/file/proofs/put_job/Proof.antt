@@ -20,13 +20,13 @@ abbrev streams : Job → List ℕ
 streams j = sides j ++ streams_bytes 1 j
 
 -- the moments of the walk
-abbrev start : tie.After-put-header → tie.Start
+abbrev start : tie.After-put_header-sides → tie.Start
 start c = c.before.before.before
 
-abbrev headed : tie.After-put-box → tie.After-put-header
+abbrev headed : tie.After-put_box-streams → tie.After-put_header-sides
 headed c = c.before.before.before.before
 
-abbrev boxed : tie.After-put-streams → tie.After-put-box
+abbrev boxed : tie.After-put_streams-matrices → tie.After-put_box-streams
 boxed c = c.before.before.before.before
 
 -- the room of each front
@@ -41,37 +41,33 @@ header_room : (c : tie.Start) → Fits c.args.buf.now 0 (header c.args.j)
 header_room c = first (header c.args.j) (box_bytes 1 c.args.j) (box_room c)
 
 -- and what is put of it
-box_put : (c : tie.After-put-box) → let s = start (headed c) in Put s.args.buf.now 0 (sides s.args.j) c.put-box.result c.put-box.new.0
-box_put c = and_then (headed c).put-header.ensures (header_room (start (headed c))) c.put-box.ensures
+box_put : (c : tie.After-put_box-streams) → Put c.args.buf.now 0 (sides c.args.j) c.put_box-streams.result c.put_box-streams.new.buf
+box_put c = and_then c.put_header-sides.ensures (header_room c.before.before.before.before.before.before.before) c.put_box-streams.ensures
 
-streams_put : (c : tie.After-put-streams) → let s = start (headed (boxed c)) in Put s.args.buf.now 0 (streams s.args.j) c.put-streams.result c.put-streams.new.0
-streams_put c = and_then (box_put (boxed c)) (box_room (start (headed (boxed c)))) c.put-streams.ensures
+streams_put : (c : tie.After-put_streams-matrices) → Put c.args.buf.now 0 (streams c.args.j) c.put_streams-matrices.result c.put_streams-matrices.new.buf
+streams_put c = and_then (box_put c.before.before.before.before) (box_room c.before.before.before.before.before.before.before.before.before.before.before) c.put_streams-matrices.ensures
 
-put-header-requires : tie.Need-put-header-requires
-put-header-requires c κs = (c.before.before.requires.0, header_room c.before.before)
+put_header-sides-requires : tie.Need-put_header-sides-requires
+put_header-sides-requires c κs = (c.requires.0, header_room c.before.before)
 
-put-box-requires : tie.Need-put-box-requires
-put-box-requires c κs = let h = c.before.before.before in ((start h).requires.0, left _ _ (box_room (start h)) h.put-header.ensures)
+put_box-streams-requires : tie.Need-put_box-streams-requires
+put_box-streams-requires c κs = (c.requires.0, left _ _ (box_room c.before.before.before.before.before.before) c.put_header-sides.ensures)
 
-put-streams-requires : tie.Need-put-streams-requires
-put-streams-requires c κs = let b = c.before.before.before in ((start (headed b)).requires.0, left _ _ (streams_room (start (headed b))) (box_put b))
+put_streams-matrices-requires : tie.Need-put_streams-matrices-requires
+put_streams-matrices-requires c κs = (c.requires.0, left _ _ (streams_room c.before.before.before.before.before.before.before.before.before.before) (box_put c.before.before.before))
 
-put-matrices-requires : tie.Need-put-matrices-requires
+put_matrices-requires : tie.Need-put_matrices-requires
 unfolding file_of
-put-matrices-requires c κs =
-    let p = c.before.before.before in
-    let s = start (headed (boxed p)) in
-    (s.pre.0, left (streams s.args.j) _ s.pre.1 (streams_put p))
+put_matrices-requires c κs =
+    (c.requires.0, left (streams c.args.j) _ c.requires.1 (streams_put c.before.before.before))
 
-same_length : tie.Need-same-length
-same_length c = search rules
+shape_of-buf : tie.Need-shape_of-buf
+shape_of-buf c = search rules
 
 returns : tie.Need-returns
 unfolding file_of
 returns c =
-    let m = c.before.before in
-    let p = m.before.before.before.before in
-    and_then (streams_put p) (streams_room (start (headed (boxed p)))) m.put-matrices.ensures
+    and_then (streams_put c.before.before.before.before.before.before) (streams_room c.before.before.before.before.before.before.before.before.before.before.before.before.before.before.before.before.before) c.put_matrices.ensures
 
 pub put_job_spec : {M : Type 1} → statement M
-put_job_spec = tie.close (tie.spec put-header-requires put-box-requires put-streams-requires put-matrices-requires same_length returns)
+put_job_spec = tie.close (tie.spec put_header-sides-requires put_box-streams-requires put_streams-matrices-requires put_matrices-requires shape_of-buf returns)

@@ -95,7 +95,7 @@ loop-again c =
     let at = returned c in
     let q = (begun at).pre in
     let h = at.before.loop-test.taken in
-    (omega (arith, h), arrive_step q.0 h (banded at) q.1 at.before.before.loop.inv.1 (shifted q.0 h (banded at) (begun at).args.t c.before.before.shift.ensures))
+    (omega (arith, h), arrive_step q.0 h (banded at) q.1 at.before.before.loop.invariant.1 (shifted q.0 h (banded at) (begun at).args.t c.before.before.shift.ensures))
 
 same_length : tie.Need-same-length invariant-loop decreases-loop
 same_length c = c.before.loop.invariant.1.size

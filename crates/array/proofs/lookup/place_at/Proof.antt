@@ -70,7 +70,7 @@ module _ (c : tie.After-cell-at invariant-loop decreases-loop) where
   found : (b : Bool) → eqb c.before.tick-at.result start.args.t && eqb c.Cell-at.result start.args.x ≡ b → cond b (some (way.loop.k - 1)) (last_of test (way.loop.k - 1)) ≡ point_at start.args.f.job start.args.t start.args.x
   found b e =
       sym (ap (λ (b : Bool). cond b (some (way.loop.k - 1)) (last_of test (way.loop.k - 1))) (sym asked ∙ e))
-      ∙ sym (nearer test way.loop.k c.before.before.before.loop-test.true) ∙ way.loop.inv.1
+      ∙ sym (nearer test way.loop.k c.before.before.before.loop-test.true) ∙ way.loop.invariant.1
 
 returns : tie.Need-returns invariant-loop decreases-loop
 returns c = found c.before _ c.if1.true
@@ -79,7 +79,7 @@ loop-less : tie.Need-loop-smaller invariant-loop decreases-loop
 loop-less c = omega (arith, c.before.before.before.before.loop-test.true)
 
 loop-again : tie.Need-loop-preserved invariant-loop decreases-loop
-loop-again c = (omega (arith, (way c.before).loop.inv.0), found c.before _ c.if1.false)
+loop-again c = (omega (arith, (way c.before).loop.invariant.0), found c.before _ c.if1.false)
 
 returns-2 : tie.Need-returns-2 invariant-loop decreases-loop
 unfolding last_of

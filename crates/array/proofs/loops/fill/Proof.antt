@@ -83,7 +83,7 @@ loop-again c =
     let l = at.before.loop in
     let got = worked.before.before.incoming-all in
     let put = worked.put-column in (
-      looped_step a.j (start at).pre.0.good a.input.now l.values got.result put.new.1.0 l.k l.inv.0 (below at) got.ensures put.ensures,
+      looped_step a.j (start at).pre.0.good a.input.now l.values got.result put.new.1.0 l.k l.invariant.0 (below at) got.ensures put.ensures,
       c.next.ensures l.k (stands at),
     )
 

@@ -138,10 +138,10 @@ loop-again c =
     (λ y.
     let read : tie.After-band-at invariant-loop decreases-loop = record { before = record { before = record { before = record { before = c.before; match = y.0 }; found = y.1 }; known-told = y.2 }; band-at = y.3 } in
     let there = ap (λ (i : ℕ). get_or a.places.now i 0) (place_is (start at).pre.0.framed at.loop-test.taken (banded read) a.t a.spot.cell) in
-    one_more l.inv (small at) y.5 (y.4.ensures ∙ there ∙ taken_some a.f.job a.input.now a.t a.places.now (s at) a.spot.cell a.spot.place _ (found c.before (ap found_of y.1.given.1))))
+    one_more l.invariant (small at) y.5 (y.4.ensures ∙ there ∙ taken_some a.f.job a.input.now a.t a.places.now (s at) a.spot.cell a.spot.place _ (found c.before (ap found_of y.1.given.1))))
     (λ n.
     let read : tie.After-place-in-table invariant-loop decreases-loop = record { before = record { before = record { before = c.before; match = n.0 }; enum_told = n.1 }; place-in-table = n.2 } in
-    one_more l.inv (small at) n.4 (ap (λ (i : ℕ). get_or a.input.now i 0) (there read) ∙ taken_none a.f.job a.input.now a.t a.places.now (s at) a.spot.cell a.spot.place (found c.before (ap found_of n.1.given.1))))
+    one_more l.invariant (small at) n.4 (ap (λ (i : ℕ). get_or a.input.now i 0) (there read) ∙ taken_none a.f.job a.input.now a.t a.places.now (s at) a.spot.cell a.spot.place (found c.before (ap found_of n.1.given.1))))
     c.match.branch
 
 returns : tie.Need-returns invariant-loop decreases-loop

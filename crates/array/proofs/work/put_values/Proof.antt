@@ -145,7 +145,7 @@ loop-again c =
     let put = c.before.before.put-value.ensures in
     let value = ap (λ (i : ℕ). get_or a.values.now i 0) (there (returned c)) in
     let goes_there = ap (λ (i : ℕ). set (part at.band-at.result.from (a.f.cells * at.band-at.result.w) at.before.before.loop.places) i (get_or a.values.now (returned c).place-in-table.result 0)) (goes at) in
-    (omega (arith, h), put_step q.0.framed h (banded at) (get_or a.values.now (returned c).place-in-table.result 0) (in_cells at.before) q.1 at.before.before.loop.inv.1 (put ∙ goes_there) value)
+    (omega (arith, h), put_step q.0.framed h (banded at) (get_or a.values.now (returned c).place-in-table.result 0) (in_cells at.before) q.1 at.before.before.loop.invariant.1 (put ∙ goes_there) value)
 
 same_length : tie.Need-same-length invariant-loop decreases-loop
 same_length c = c.before.loop.invariant.1.size
