@@ -9,40 +9,40 @@ use Rattle.frame.proofs.RoomLaws.{from_next, band_in, room_small, room_bound}
 use Rattle.frame.proofs.band_after.Statement.{statement}
 use Rattle.frame.proofs.band_after.Tie as tie
 
-add-if1 : tie.Need-overflow-add-if1
-add-if1 c = search rules
+overflow_add-s : tie.Need-overflow_add-s
+overflow_add-s c = search rules
 
-add-band-of : tie.Need-overflow-add-band-of
-add-band-of c = search rules
+overflow_add-s-then-s-j : tie.Need-overflow_add-s-then-s-j
+overflow_add-s-then-s-j c = search rules
 
 -- there is a further stream
-module _ (c : tie.Then1) where
+module _ (c : tie.Then-s-j) where
   abbrev start : tie.Start
   start = c.before.before
 
-  banded : Banded start.args.j start.args.s start.args.b
-  banded = start.pre.3 (omega (arith, c.if1.true))
+  banded : Banded c.args.j c.args.s c.args.b
+  banded = c.requires.3 (omega (arith, c.if-s-j.true))
 
-  next : start.args.b.from + start.args.cells * start.args.b.w ≡ from start.args.j (start.args.s + 1)
-  next = ap₂ ◌+◌ banded.begin (ap₂ ◌*◌ start.pre.1 banded.delay) ∙ sym (from_next start.args.j start.args.s)
+  next : c.args.b.from + c.args.cells * c.args.b.w ≡ from c.args.j (c.args.s + 1)
+  next = ap₂ ◌+◌ banded.begin (ap₂ ◌*◌ c.requires.1 banded.delay) ∙ sym (from_next c.args.j c.args.s)
 
-  low : start.args.b.from + start.args.cells * start.args.b.w ≤ room_bound
-  low = omega (arith, next, from_next start.args.j start.args.s, band_in start.pre.0 {s = start.args.s} (omega (arith, c.if1.true)), room_small start.args.j start.pre.0.acceptable)
+  low : c.args.b.from + c.args.cells * c.args.b.w ≤ room_bound
+  low = omega (arith, next, from_next c.args.j c.args.s, band_in c.requires.0 {s = c.args.s} (omega (arith, c.if-s-j.true)), room_small c.args.j c.requires.0.acceptable)
 
-mul-band-of : tie.Need-overflow-mul-band-of
-mul-band-of c = omega (arith, low c.before)
+overflow_mul-cells : tie.Need-overflow_mul-cells
+overflow_mul-cells c = omega (arith, low c.before)
 
-add-band-of-2 : tie.Need-overflow-add-band-of-2
-add-band-of-2 c = omega (arith, low c.before.before)
+overflow_add-b : tie.Need-overflow_add-b
+overflow_add-b c = omega (arith, low c.before.before)
 
-band-of-requires : tie.Need-band-of-requires
-band-of-requires c κs = let s = start c.before.before in (s.pre.0, omega (arith, c.before.before.if1.true), next c.before.before)
+band_of-requires : tie.Need-band_of-requires
+band_of-requires c κs = (c.requires.0, omega (arith, c.if-s-j.true), next c.before.before)
 
-returns : tie.Need-returns
-returns c = search rules
+returns-then-s-j : tie.Need-returns-then-s-j
+returns-then-s-j c = search rules
 
-returns-2 : tie.Need-returns-2
-returns-2 c = λ h. absurd (omega (arith, c.if1.false))
+returns-else-s-j : tie.Need-returns-else-s-j
+returns-else-s-j c = λ h. absurd (omega (arith, c.if-s-j.false))
 
 pub band_after_spec : {M : Type 1} → statement M
-band_after_spec = tie.close (tie.spec add-if1 add-band-of mul-band-of add-band-of-2 band-of-requires returns returns-2)
+band_after_spec = tie.close (tie.spec overflow_add-s overflow_add-s-then-s-j overflow_mul-cells overflow_add-b band_of-requires returns-then-s-j returns-else-s-j)

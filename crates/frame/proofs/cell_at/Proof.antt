@@ -13,33 +13,30 @@ use Rattle.frame.proofs.FrameLaws.{flat, product_sized, in_rectangle}
 use Rattle.frame.proofs.cell_at.Statement.{statement}
 use Rattle.frame.proofs.cell_at.Tie as tie
 
-time-and-place-requires : tie.Need-time-and-place-requires
-time-and-place-requires c κs =
+time_and_place-v-requires : tie.Need-time_and_place-v-requires
+time_and_place-v-requires c κs =
     let a = c.requires.0.runnable.acceptable in
     (a, sized_up (omega arith) (in_box_sized c.args.f.job a c.requires.1))
 
 -- where the point is put is read back as Sx
-put : (c : tie.After-time-and-place) → held c.time-and-place.result.x1 ∷ held c.time-and-place.result.x2 ∷ [] ≡ S c.before.args.f.job (entries c.before.args.p)
+put : (c : tie.After-time_and_place-v) → held c.time_and_place-v.result.x1 ∷ held c.time_and_place-v.result.x2 ∷ [] ≡ S c.args.f.job (entries c.args.p)
 put c =
-    let s = c.before in
-    let j = s.args.f.job in
-    let a = s.requires.0.runnable.acceptable in
-    let p = entries s.args.p in
-    let v = unfour c.time-and-place.ensures in
-    two (held_as v.1 (product_sized j a (entries j.row0) refl (row0_sized j a) p s.requires.1) tt) (held_as v.2 (product_sized j a (entries j.row1) refl (row1_sized j a) p s.requires.1) tt)
+    let j = c.args.f.job in
+    let a = c.requires.0.runnable.acceptable in
+    let p = entries c.args.p in
+    let v = unfour c.time_and_place-v.ensures in
+    two (held_as v.1 (product_sized j a (entries j.row0) refl (row0_sized j a) p c.requires.1) tt) (held_as v.2 (product_sized j a (entries j.row1) refl (row1_sized j a) p c.requires.1) tt)
 
-number-of-requires : tie.Need-number-of-requires
-number-of-requires c κs =
-    let at = c.before.before in
-    let f = at.before.requires.0 in
-    let i = in_rectangle at.before.args.f.job f.runnable.acceptable (entries at.before.args.p) at.before.requires.1 in
-    (flat f, subst (In _) (sym (put at)) (subst (λ (B : Box). In B (S at.before.args.f.job (entries at.before.args.p))) (sym f.rectangle) i))
+number_of-requires : tie.Need-number_of-requires
+number_of-requires c κs =
+    let f = c.requires.0 in
+    let i = in_rectangle c.args.f.job f.runnable.acceptable (entries c.args.p) c.requires.1 in
+    (flat f, subst (In _) (sym (put c.before.before.before)) (subst (λ (B : Box). In B (S c.args.f.job (entries c.args.p))) (sym f.rectangle) i))
 
 returns : tie.Need-returns
 unfolding cell_of
 returns c =
-    let at = c.before.before.before in
-    λ k e. c.number-of.ensures ∙ ap₂ place_of at.before.requires.0.rectangle (put at ∙ ap (S at.before.args.f.job) e)
+    λ k e. c.number_of.ensures ∙ ap₂ place_of c.requires.0.rectangle (put c.before.before.before.before ∙ ap (S c.args.f.job) e)
 
 pub cell_at_spec : {M : Type 1} → statement M
-cell_at_spec = tie.close (tie.spec time-and-place-requires number-of-requires returns)
+cell_at_spec = tie.close (tie.spec time_and_place-v-requires number_of-requires returns)

@@ -15,84 +15,80 @@ use Rattle.frame.proofs.FrameLaws.{TimedTo, timed_step}
 use Rattle.frame.proofs.fill_timetable.Statement.{statement}
 use Rattle.frame.proofs.fill_timetable.Tie as tie
 
-abbrev invariant-loop : tie.invariant-loop
+abbrev invariant-loop : tie.invariant-loop-k
 invariant-loop f timetable₀ points b p₀ k₀ timetable p k = TimedTo f.job k timetable × (length timetable ≡ length timetable₀) × (k ≤ points) × PointAt (box f.job) k (entries p) × ((i : ℕ) → points_of f.job ≤ i → get_or timetable i 0 ≡ get_or timetable₀ i 0)
 
-abbrev decreases-loop : tie.decreases-loop
+abbrev decreases-loop : tie.decreases-loop-k
 decreases-loop f timetable₀ points b p₀ k₀ timetable p k = points - k
 
-point-requires : tie.Need-point-requires invariant-loop decreases-loop
-point-requires c κs =
-    let a = c.before.before.requires.0.runnable.acceptable in
+point-p-requires : tie.Need-point-p-requires invariant-loop decreases-loop
+point-p-requires c κs =
+    let a = c.requires.0.runnable.acceptable in
     let w = walkable a in
     (w.0, w.1, some_point a)
 
-loop-holds : tie.Need-loop-init invariant-loop decreases-loop
-loop-holds c = (record { size = c.before.before.before.requires.1; ticks = λ k h. absurd (omega arith) }, refl, omega arith, (λ h. c.point.ensures), λ i h. refl)
+loop-k-init : tie.Need-loop-k-init invariant-loop decreases-loop
+loop-k-init c = (record { size = c.requires.1; ticks = λ k h. absurd (omega arith) }, refl, omega arith, (λ h. c.point-p.ensures), λ i h. refl)
 
 -- the place k, and p, the point there
-module _ (c : tie.In-loop invariant-loop decreases-loop) where
+module _ (c : tie.In-loop-k invariant-loop decreases-loop) where
   abbrev start : tie.Start invariant-loop decreases-loop
-  start = let point = c.before.before in point.before.before.before
+  start = c.before.before.before.before.before
 
   abbrev k : ℕ
-  k = c.before.loop.k
+  k = c.loop-k.k
 
-  below : k < points_of start.args.f.job
-  below = omega (arith, c.loop-test.true, start.pre.0.points)
+  below : k < points_of c.args.f.job
+  below = omega (arith, c.loop-k-test.true, c.requires.0.points)
 
   few : k < 1024
-  few = omega (arith, below, few_points start.pre.0.runnable.acceptable)
+  few = omega (arith, below, few_points c.requires.0.runnable.acceptable)
 
-  stands : entries c.before.loop.p ≡ point_of (box start.args.f.job) k
-  stands = c.before.loop.invariant.3 below
+  stands : entries c.loop-k.p ≡ point_of (box c.args.f.job) k
+  stands = c.loop-k.invariant.3 below
 
-  inside : In (box start.args.f.job) (entries c.before.loop.p)
+  inside : In (box c.args.f.job) (entries c.loop-k.p)
   inside = stands_in _ k below stands
 
-tick-at-requires : tie.Need-tick-at-requires invariant-loop decreases-loop
-tick-at-requires c κs = ((start c).requires.0, inside c)
+tick_at-requires : tie.Need-tick_at-requires invariant-loop decreases-loop
+tick_at-requires c κs = (c.requires.0, inside c)
 
-mul-timetable : tie.Need-overflow-mul-timetable invariant-loop decreases-loop
-mul-timetable c = omega (arith, few c.before)
+offset_bounds-timetable-i : tie.Need-offset_bounds-timetable-i invariant-loop decreases-loop
+offset_bounds-timetable-i c = omega (arith, few c.before)
 
-slice-write-timetable : tie.Need-slice-write-timetable invariant-loop decreases-loop
-slice-write-timetable c = omega (arith, below c.before, c.before.before.loop.invariant.0.size)
+bounds-timetable-i : tie.Need-bounds-timetable-i invariant-loop decreases-loop
+bounds-timetable-i c = omega (arith, below c.before, c.loop-k.invariant.0.size)
 
-next-requires : tie.Need-next-requires invariant-loop decreases-loop
-next-requires c κs =
-    let w = walkable (start c.before).pre.0.runnable.acceptable in
+next-p-requires : tie.Need-next-p-requires invariant-loop decreases-loop
+next-p-requires c κs =
+    let w = walkable c.requires.0.runnable.acceptable in
     (w.0, w.1, inside c.before)
 
-add-k : tie.Need-overflow-add-k invariant-loop decreases-loop
-add-k c = omega (arith, few c.before.before)
+overflow_add-k : tie.Need-overflow_add-k invariant-loop decreases-loop
+overflow_add-k c = omega (arith, few c.before.before)
 
-loop-less : tie.Need-loop-smaller invariant-loop decreases-loop
-loop-less c = omega (arith, c.before.before.loop-test.true)
+loop-k-smaller : tie.Need-loop-k-smaller invariant-loop decreases-loop
+loop-k-smaller c = omega (arith, c.loop-k-test.true)
 
-loop-again : tie.Need-loop-preserved invariant-loop decreases-loop
-loop-again c =
-    let at = c.before.before in
-    let l = at.before.loop in
-    let tick = c.before.tick-at in (
-      timed_step l.invariant.0 (below at) (tick.ensures l.k (stands at)),
+loop-k-preserved : tie.Need-loop-k-preserved invariant-loop decreases-loop
+loop-k-preserved c =
+    let l = c.loop-k in
+    let tick = c.tick_at in (
+      timed_step l.invariant.0 (below c.before.before) (tick.ensures l.k (stands c.before.before)),
       length-set l.timetable l.k tick.result ∙ l.invariant.1,
-      omega (arith, at.loop-test.true),
-      c.next.ensures l.k (stands at),
-      λ i h. get_or-set_other l.timetable l.k i tick.result 0 (λ e. omega (arith, below at)) ∙ l.invariant.4 i h,
+      omega (arith, c.loop-k-test.true),
+      c.next-p.ensures l.k (stands c.before.before),
+      λ i h. get_or-set_other l.timetable l.k i tick.result 0 (λ e. omega (arith, below c.before.before)) ∙ l.invariant.4 i h,
     )
 
-same_length : tie.Need-same-length invariant-loop decreases-loop
-same_length c = c.before.loop.invariant.1
+shape_of-timetable : tie.Need-shape_of-timetable invariant-loop decreases-loop
+shape_of-timetable c = c.loop-k.invariant.1
 
 returns : tie.Need-returns invariant-loop decreases-loop
 returns c =
-    let l = c.before.loop in
-    let point = c.before.before in
-    let start = point.before.before.before in
+    let l = c.loop-k in
     let done = l.invariant.0 in
-    (record { size = done.size; ticks = λ k h. done.ticks k (omega (arith, c.loop-test.false, start.requires.0.points)) }, (l.invariant.1, l.invariant.4))
+    (record { size = done.size; ticks = λ k h. done.ticks k (omega (arith, c.loop-k-test.false, c.requires.0.points)) }, (l.invariant.1, l.invariant.4))
 
 pub fill_timetable_spec : {M : Type 1} → statement M
-fill_timetable_spec =
-    tie.close (tie.spec invariant-loop decreases-loop point-requires loop-holds tick-at-requires mul-timetable slice-write-timetable next-requires add-k loop-less loop-again same_length returns)
+fill_timetable_spec = tie.close (tie.spec invariant-loop decreases-loop point-p-requires loop-k-init tick_at-requires offset_bounds-timetable-i bounds-timetable-i next-p-requires overflow_add-k loop-k-smaller loop-k-preserved shape_of-timetable returns)

@@ -23,54 +23,51 @@ use Rattle.frame.proofs.frame_of.Tie as tie
 asked : (j : Job) {h : List ℤ} → Acceptable j → Sized 127 h → Sized entry h × Sized coordinate (entries j.bounds.low) × Sized coordinate (entries j.bounds.high) × Solid (box_of j.bounds)
 asked j a z = (sized_up (omega arith) z, low_sized j a, high_sized j a, solid j a)
 
-reach-of-requires : tie.Need-reach-of-requires
-reach-of-requires c κs = let s = c.before in asked s.args.j s.requires.acceptable (row0_sized s.args.j s.requires.acceptable)
+reach_of-rows-requires : tie.Need-reach_of-rows-requires
+reach_of-rows-requires c κs = asked c.args.j c.requires.acceptable (row0_sized c.args.j c.requires.acceptable)
 
-reach-of-requires-2 : tie.Need-reach-of-requires-2
-reach-of-requires-2 c κs = let s = c.before.before in asked s.args.j s.requires.acceptable (row1_sized s.args.j s.requires.acceptable)
+reach_of-columns-requires : tie.Need-reach_of-columns-requires
+reach_of-columns-requires c κs = asked c.args.j c.requires.acceptable (row1_sized c.args.j c.requires.acceptable)
 
-reach-of-requires-3 : tie.Need-reach-of-requires-3
-reach-of-requires-3 c κs = let s = c.before.before.before in asked s.args.j s.requires.acceptable (time_sized s.args.j s.requires.acceptable)
+reach_of-clock-requires : tie.Need-reach_of-clock-requires
+reach_of-clock-requires c κs = asked c.args.j c.requires.acceptable (time_sized c.args.j c.requires.acceptable)
 
 -- all reaches are worked out
-module _ (c : tie.After-reach-of3) where
+module _ (c : tie.After-reach_of-clock) where
   abbrev start : tie.Start
-  start = c.before.before.before.before
+  start = c.before.before.before.before.before.before.before
 
-  are : c.before.before.reach_of.result.count * c.before.reach-of2.result.count ≡ cells start.args.j
-  are = ap₂ ◌*◌ c.before.before.reach_of.ensures.count c.before.reach-of2.ensures.count ∙ sym (cells_are start.args.j)
+  are : c.reach_of-rows.result.count * c.reach_of-columns.result.count ≡ cells c.args.j
+  are = ap₂ ◌*◌ c.reach_of-rows.ensures.count c.reach_of-columns.ensures.count ∙ sym (cells_are c.args.j)
 
-mul-cells : tie.Need-overflow-mul-cells
-mul-cells c = let r = c.before.before in fits_under (le_trans (le_of_eq (are r)) (cells_small (start r).args.j (start r).requires.acceptable)) tt
+overflow_mul-cells : tie.Need-overflow_mul-cells
+overflow_mul-cells c = fits_under (le_trans (le_of_eq (are c.before.before)) (cells_small c.args.j c.requires.acceptable)) tt
 
 count-requires : tie.Need-count-requires
-count-requires c κs = walkable (start c.before.before).pre.acceptable
+count-requires c κs = walkable c.requires.acceptable
 
-bands-of-requires : tie.Need-bands-of-requires
-bands-of-requires c κs = let counted = c.before.before in let r = counted.before.before.before in ((start r).requires, are r)
+bands_of-requires : tie.Need-bands_of-requires
+bands_of-requires c κs = (c.requires, are c.before.before.before.before.before)
 
 returns : tie.Need-returns
 returns c =
-    let told = c.before.before in
-    let counted = told.before.before in
-    let reached = counted.before.before.before in
-    let j = (start reached).args.j in
-    let a = (start reached).requires.acceptable in
-    let rows = reached.before.before.reach_of.ensures in
-    let columns = reached.before.reach-of2.ensures in
+    let j = c.args.j in
+    let a = c.requires.acceptable in
+    let rows = c.reach_of-rows.ensures in
+    let columns = c.reach_of-columns.ensures in
     let s0 = small_ends j a (entries j.row0) refl (row0_sized j a) in
     let s1 = small_ends j a (entries j.row1) refl (row1_sized j a) in
     let s2 = small_ends j a (entries j.time) refl (time_sized j a) in (
       refl,
       record {
-        runnable = (start reached).requires;
-        points = counted.count.ensures;
-        start = held_as reached.reach-of3.ensures.low s2.0 tt;
-        cells = are reached;
+        runnable = c.requires;
+        points = c.count.ensures;
+        start = held_as c.reach_of-clock.ensures.low s2.0 tt;
+        cells = are c.before.before.before.before.before.before.before;
         rectangle = two (ap₂ side (held_as rows.low s0.0 tt) (held_as rows.high s0.1 tt)) (ap₂ side (held_as columns.low s1.0 tt) (held_as columns.high s1.1 tt));
-        bands = c.before.bands-of.ensures;
+        bands = c.bands_of.ensures;
       },
     )
 
 pub frame_of_spec : {M : Type 1} → statement M
-frame_of_spec = tie.close (tie.spec reach-of-requires reach-of-requires-2 reach-of-requires-3 mul-cells count-requires bands-of-requires returns)
+frame_of_spec = tie.close (tie.spec reach_of-rows-requires reach_of-columns-requires reach_of-clock-requires overflow_mul-cells count-requires bands_of-requires returns)

@@ -28,14 +28,13 @@ small s =
     let h = entries j.time in
     ((small_ends j a h refl (time_sized j a)).0, product_sized j a h refl (time_sized j a) (entries s.args.p) s.requires.1)
 
-steps-above-requires : tie.Need-steps-above-requires
-steps-above-requires c κs = let s = c.before.before in (fits_limit s.requires.0.start (small s).0, fits_limit c.before.dot.ensures (small s).1)
+steps_above-requires : tie.Need-steps_above-requires
+steps_above-requires c κs = (fits_limit c.requires.0.start (small c.before.before.before).0, fits_limit c.dot.ensures (small c.before.before.before).1)
 
 returns : tie.Need-returns
 unfolding tick_of
 returns c =
-    let s = c.before.before.before in
-    λ k e. c.steps-above.ensures ∙ ap₂ steps (held_as s.requires.0.start (small s).0 tt) (held_as c.before.before.dot.ensures (small s).1 tt ∙ ap (H s.args.f.job) e)
+    λ k e. c.steps_above.ensures ∙ ap₂ steps (held_as c.requires.0.start (small c.before.before.before.before).0 tt) (held_as c.dot.ensures (small c.before.before.before.before).1 tt ∙ ap (H c.args.f.job) e)
 
 pub tick_at_spec : {M : Type 1} → statement M
-tick_at_spec = tie.close (tie.spec dot-requires steps-above-requires returns)
+tick_at_spec = tie.close (tie.spec dot-requires steps_above-requires returns)

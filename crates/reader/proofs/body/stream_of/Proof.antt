@@ -12,38 +12,36 @@ use Rattle.reader.proofs.body.stream_of.Tie as tie
 front : (c : tie.Start) → length (take c.args.n c.args.l.now) ≡ c.args.n
 front c = length-take-le c.args.n c.args.l.now (omega arith)
 
-slice-aggregate-vector-of : tie.Need-slice-aggregate-vector-of
-slice-aggregate-vector-of c = sym (front c.before.before)
+slice_bounds-vector_of-end : tie.Need-slice_bounds-vector_of-end
+slice_bounds-vector_of-end c = sym (front c.before)
 
-vector-of-requires : tie.Need-vector-of-requires
-vector-of-requires c κs = omega (arith, front c.before.before)
+vector_of-d-requires : tie.Need-vector_of-d-requires
+vector_of-d-requires c κs = omega (arith, front c.before)
 
-shared-slice-read-t7 : tie.Need-shared-slice-read-t7
-shared-slice-read-t7 c = search rules
+bounds-l-n : tie.Need-bounds-l-n
+bounds-l-n c = search rules
 
-add-t8 : tie.Need-overflow-add-t8
-add-t8 c = search rules
+overflow_add-result : tie.Need-overflow_add-result
+overflow_add-result c = search rules
 
-shared-slice-read-t10 : tie.Need-shared-slice-read-t10
-shared-slice-read-t10 c = search rules
+bounds-l-n-2 : tie.Need-bounds-l-n-2
+bounds-l-n-2 c = search rules
 
-add-t11 : tie.Need-overflow-add-t11
-add-t11 c = search rules
+overflow_add-result-2 : tie.Need-overflow_add-result-2
+overflow_add-result-2 c = search rules
 
-shared-slice-read-t13 : tie.Need-shared-slice-read-t13
-shared-slice-read-t13 c = search rules
+bounds-l-n-3 : tie.Need-bounds-l-n-3
+bounds-l-n-3 c = search rules
 
-add-t14 : tie.Need-overflow-add-t14
-add-t14 c = search rules
+overflow_add-result-3 : tie.Need-overflow_add-result-3
+overflow_add-result-3 c = search rules
 
-shared-slice-read-t16 : tie.Need-shared-slice-read-t16
-shared-slice-read-t16 c = search rules
+bounds-l-n-4 : tie.Need-bounds-l-n-4
+bounds-l-n-4 c = search rules
 
 returns : tie.Need-returns
 returns c =
-    let vector = c.before.before.before.before in
-    let start = vector.before.before.before in
-    stream_in start.args.l.now start.args.n _ start.requires.1 vector.vector-of.ensures
+    stream_in c.args.l.now c.args.n _ c.requires.1 c.vector_of-d.ensures
 
 pub stream_of_spec : {M : Type 1} → statement M
-stream_of_spec = tie.close (tie.spec slice-aggregate-vector-of vector-of-requires shared-slice-read-t7 add-t8 shared-slice-read-t10 add-t11 shared-slice-read-t13 add-t14 shared-slice-read-t16 returns)
+stream_of_spec = tie.close (tie.spec slice_bounds-vector_of-end vector_of-d-requires bounds-l-n overflow_add-result bounds-l-n-2 overflow_add-result-2 bounds-l-n-3 overflow_add-result-3 bounds-l-n-4 returns)

@@ -13,29 +13,27 @@ use Rattle.reader.proofs.reading.read.Statement.{statement}
 use Rattle.reader.proofs.reading.read.Tie as tie
 
 -- the header passes
-passed : (c : tie.Else1) → Headed c.before.before.before.args.s.now
-passed c = let s = c.before.before.before.args.s.now in headed s (subst (First (head_checks s)) c.if1.false c.before.number.ensures)
+passed : (c : tie.Else-head-ne0) → Headed c.args.s.now
+passed c = let s = c.args.s.now in headed s (subst (First (head_checks s)) c.if-head-ne0.false c.number-head.ensures)
 
-number-requires : tie.Need-number-requires
-number-requires c κs = search rules
+number-head-requires : tie.Need-number-head-requires
+number-head-requires c κs = search rules
+
+returns-then-head-ne0 : tie.Need-returns-then-head-ne0
+returns-then-head-ne0 c = let s = c.args.s.now in (stop_first (head_checks s) (later 5 (file_checks s)) _ c.if-head-ne0.true c.number-head.ensures, c.if-head-ne0.true)
+
+job_of-j-requires : tie.Need-job_of-j-requires
+job_of-j-requires c κs = passed c
+
+number-number-requires : tie.Need-number-number-requires
+number-number-requires c κs = search rules
+
+returns-then-number-ne0 : tie.Need-returns-then-number-ne0
+returns-then-number-ne0 c =
+    (record_first c.args.s.now (passed c.before.before.before) _ c.job_of-j.ensures _ c.number-number.ensures, λ e. omega (arith, c.if-number-ne0.true))
 
 returns : tie.Need-returns
-returns c = let s = c.before.before.before.args.s.now in (stop_first (head_checks s) (later 5 (file_checks s)) _ c.if1.true c.before.number.ensures, c.if1.true)
-
-job-of-requires : tie.Need-job-of-requires
-job-of-requires c κs = passed c
-
-number-requires-2 : tie.Need-number-requires-2
-number-requires-2 c κs = search rules
-
-returns-2 : tie.Need-returns-2
-returns-2 c =
-    let else1 = c.before.before.before in
-    let start = else1.before.before.before in
-    (record_first start.args.s.now (passed else1) _ c.before.before.Job-of.ensures _ c.before.number2.ensures, λ e. omega (arith, c.if2.true))
-
-returns-3 : tie.Need-returns-3
-returns-3 c = (accepted _ (omega (arith, c.if2.false)) c.before.number2.ensures, c.before.before.Job-of.ensures.file)
+returns c = (accepted _ (omega (arith, c.if-number-ne0.false)) c.number-number.ensures, c.job_of-j.ensures.file)
 
 pub read_spec : {M : Type 1} → statement M
-read_spec = tie.close (tie.spec number-requires returns job-of-requires number-requires-2 returns-2 returns-3)
+read_spec = tie.close (tie.spec number-head-requires returns-then-head-ne0 job_of-j-requires number-number-requires returns-then-number-ne0 returns)
