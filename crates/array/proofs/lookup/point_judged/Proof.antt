@@ -15,57 +15,55 @@ use Rattle.array.proofs.PointLaws.{last_below}
 use Rattle.array.proofs.lookup.point_judged.Statement.{statement}
 use Rattle.array.proofs.lookup.point_judged.Tie as tie
 
-enum-known-v : tie.Need-enum-known-v
-enum-known-v c = search rules
+enum_known-v : tie.Need-enum_known-v
+enum_known-v c = search rules
 
-returns : tie.Need-returns
-returns c =
-    let start = c.before in
-    (start.requires, not_accepted start.args.j start.args.v start.requires c.match.keys2)
+returns-in_default : tie.Need-returns-in_default
+returns-in_default c =
+    (c.requires, not_accepted c.args.j c.args.v c.requires c.in_default.in_default-own.keys2)
 
 -- the verdict says accepted
-says : (c : tie.After-known-told) → Says c.before.before.before.args.j (Accepted c.before.v.given.0.0)
-says c = let start = c.before.before.before in subst (Says start.args.j) c.before.v.given.1 start.requires
+says : (c : tie.In-Accepted) → Says c.args.j (Accepted c.in-Accepted._extent)
+says c = subst (Says c.args.j) c.in-Accepted.is c.requires
 
-frame-of-requires : tie.Need-frame-of-requires
-frame-of-requires c κs = accepted_runs (says c)
+frame_of-requires : tie.Need-frame_of-requires
+frame_of-requires c κs = accepted_runs (says c)
 
-place-at-requires : tie.Need-place-at-requires
-place-at-requires c κs = c.frame-of.ensures.1
+place_at-found-requires : tie.Need-place_at-found-requires
+place_at-found-requires c κs = c.frame_of.ensures.1
 
-enum-known-found : tie.Need-enum-known-found
-enum-known-found c = search rules
+enum_known-found : tie.Need-enum_known-found
+enum_known-found c = search rules
 
 -- what the scan says of the job
-module _ (c : tie.After-place-at) where
-  abbrev judged : tie.After-known-told
+module _ (c : tie.After-place_at-found) where
+  abbrev judged : tie.In-Accepted
   judged = c.before.before
 
   abbrev start : tie.Start
-  start = judged.before.before.before
+  start = c.before.before.before
 
-  scanned : {o : Option ℕ} → found_of c.place_at.result ≡ o → point_at start.args.j start.args.t start.args.x ≡ o
-  scanned e = sym (c.place_at.ensures ∙ ap (λ (j : Job). point_at j start.args.t start.args.x) c.before.frame-of.ensures.0) ∙ e
+  scanned : {o : Option ℕ} → found_of c.place_at-found.result ≡ o → point_at c.args.j c.args.t c.args.x ≡ o
+  scanned e = sym (c.place_at-found.ensures ∙ ap (λ (j : Job). point_at j c.args.t c.args.x) c.frame_of.ensures.0) ∙ e
 
 -- the place that was found
-found : (c : tie.After-known-told2) → let a = (start c.before.before.before).args in point_at a.j a.t a.x ≡ some c.before.found.given.0.0
-found c = scanned c.before.before.before (ap found_of c.before.found.given.1)
+found : (c : tie.In-At) → let a = c.args in point_at a.j a.t a.x ≡ some c.in-At.k
+found c = scanned c.before (ap found_of c.in-At.is)
 
 point-requires : tie.Need-point-requires
 point-requires c κs =
-    let at = c.before.before.before in
-    let a = (start at).args in
-    let w = walkable (accepted_limits (says (judged at))) in
-    (w.0, w.1, last_below (works a.j a.t a.x) _ _ (found c))
+    let a = c.args in
+    let w = walkable (accepted_limits (says c.before.before.before.before)) in
+    (w.0, w.1, last_below (works a.j a.t a.x) _ _ (found c.before))
 
-enum_told : tie.Need-enum-told
-enum_told c = search rules
+enum_told-1 : tie.Need-enum_told-1
+enum_told-1 c = search rules
 
-returns-2 : tie.Need-returns-2
-returns-2 c = let at = c.before.before.before.before in (_, says (judged at), (_, found c.before, c.point.ensures))
+returns-in-At : tie.Need-returns-in-At
+returns-in-At c = (_, says c.before.before.before.before.before, (_, found c.before.before, c.point.ensures))
 
-returns-3 : tie.Need-returns-3
-returns-3 c = let at = c.before.before in (_, says (judged at), scanned at (ap found_of c.enum_told.given.1))
+returns-in-Nowhere : tie.Need-returns-in-Nowhere
+returns-in-Nowhere c = (_, says c.before.before.before, scanned c.before (ap found_of c.in-Nowhere.is))
 
 pub point_judged_spec : {M : Type 1} → statement M
-point_judged_spec = tie.close (tie.spec enum-known-v returns frame-of-requires place-at-requires enum-known-found point-requires enum_told returns-2 returns-3)
+point_judged_spec = tie.close (tie.spec enum_known-v returns-in_default frame_of-requires place_at-found-requires enum_known-found point-requires enum_told-1 returns-in-At returns-in-Nowhere)

@@ -14,86 +14,81 @@ use Rattle.verdict.proofs.Fits.{some_point}
 use Rattle.array.proofs.loops.fill.Statement.{statement}
 use Rattle.array.proofs.loops.fill.Tie as tie
 
-abbrev invariant-loop : tie.invariant-loop
+abbrev invariant-loop : tie.invariant-loop-k
 invariant-loop j input values₀ points b p₀ k₀ values p k = LoopedTo j input k values × PointAt (box j) k (entries p)
 
-abbrev decreases-loop : tie.decreases-loop
+abbrev decreases-loop : tie.decreases-loop-k
 decreases-loop j input values₀ points b p₀ k₀ values p k = points - k
 
-point-requires : tie.Need-point-requires invariant-loop decreases-loop
-point-requires c κs =
-    let g = c.before.before.before.requires.0.good in
+point-p-requires : tie.Need-point-p-requires invariant-loop decreases-loop
+point-p-requires c κs =
+    let g = c.requires.0.good in
     let w = walkable g in
     (w.0, w.1, some_point g)
 
-loop-holds : tie.Need-loop-init invariant-loop decreases-loop
-loop-holds c =
-    let s = c.before.before.before.before in
-    (looped_start s.args.j s.args.input.now s.args.values.now s.requires.1.size, λ h. c.point.ensures)
+loop-k-init : tie.Need-loop-k-init invariant-loop decreases-loop
+loop-k-init c =
+    (looped_start c.args.j c.args.input.now c.args.values.now c.requires.1.size, λ h. c.point-p.ensures)
 
 -- the start, from the loop
-abbrev begun : tie.At-loop invariant-loop decreases-loop → tie.Start invariant-loop decreases-loop
-begun c = let point = c.before in point.before.before.before.before
+abbrev begun : tie.At-loop-k invariant-loop decreases-loop → tie.Start invariant-loop decreases-loop
+begun c = c.before.before.before.before.before
 
 -- the place k, and p, the point there
-module _ (c : tie.In-loop invariant-loop decreases-loop) where
+module _ (c : tie.In-loop-k invariant-loop decreases-loop) where
   abbrev start : tie.Start invariant-loop decreases-loop
-  start = begun c.before
+  start = c.before.before.before.before.before.before
 
   abbrev k : ℕ
-  k = c.before.loop.k
+  k = c.loop-k.k
 
-  below : k < points_of start.args.j
-  below = omega (arith, c.loop-test.true, start.pre.0.count)
+  below : k < points_of c.args.j
+  below = omega (arith, c.loop-k-test.true, c.requires.0.count)
 
-  stands : entries c.before.loop.p ≡ point_of (box start.args.j) k
-  stands = c.before.loop.invariant.1 below
+  stands : entries c.loop-k.p ≡ point_of (box c.args.j) k
+  stands = c.loop-k.invariant.1 below
 
   -- the value table as it is
-  ready : Ready start.args.j c.before.loop.values start.args.points
-  ready = record { good = start.pre.0.good; size = c.before.loop.invariant.0.size; count = start.pre.0.count }
+  ready : Ready c.args.j c.loop-k.values c.args.points
+  ready = record { good = c.requires.0.good; size = c.loop-k.invariant.0.size; count = c.requires.0.count }
 
-incoming-all-requires : tie.Need-incoming-all-requires invariant-loop decreases-loop
-incoming-all-requires c κs = let at = c.before in ((start at).requires.0, ready at, at.loop-test.true, stands at)
+incoming_all-got-requires : tie.Need-incoming_all-got-requires invariant-loop decreases-loop
+incoming_all-got-requires c κs = (c.requires.0, ready c, c.loop-k-test.true, stands c)
 
-put-column-requires : tie.Need-put-column-requires invariant-loop decreases-loop
-put-column-requires c κs = let at = c.before.before.before in (ready at, at.loop-test.true)
+put_column-requires : tie.Need-put_column-requires invariant-loop decreases-loop
+put_column-requires c κs = (ready c.before.before, c.loop-k-test.true)
 
 -- the point's turn, once its column is worked
-abbrev turn : tie.After-put-column invariant-loop decreases-loop → tie.In-loop invariant-loop decreases-loop
-turn c = c.before.before.before.before
+abbrev turn : tie.After-put_column invariant-loop decreases-loop → tie.In-loop-k invariant-loop decreases-loop
+turn c = c.before.before.before
 
-next-requires : tie.Need-next-requires invariant-loop decreases-loop
-next-requires c κs =
-    let at = turn c.before.before in
-    let w = walkable (start at).pre.0.good in
-    (w.0, w.1, stands_in _ (k at) (below at) (stands at))
+next-p-requires : tie.Need-next-p-requires invariant-loop decreases-loop
+next-p-requires c κs =
+    let w = walkable c.requires.0.good in
+    (w.0, w.1, stands_in _ (k c.before.before.before.before.before) (below c.before.before.before.before.before) (stands c.before.before.before.before.before))
 
-add-k : tie.Need-overflow-add-k invariant-loop decreases-loop
-add-k c = let at = turn c.before.before.before in omega (arith, below at, few_points (start at).pre.0.good)
+overflow_add-k : tie.Need-overflow_add-k invariant-loop decreases-loop
+overflow_add-k c = omega (arith, below c.before.before.before.before.before.before, few_points c.requires.0.good)
 
-loop-less : tie.Need-loop-smaller invariant-loop decreases-loop
-loop-less c = omega (arith, (turn c.before.before.before).loop-test.taken)
+loop-k-smaller : tie.Need-loop-k-smaller invariant-loop decreases-loop
+loop-k-smaller c = omega (arith, c.loop-k-test.true)
 
-loop-again : tie.Need-loop-preserved invariant-loop decreases-loop
-loop-again c =
-    let worked = c.before.before.before in
-    let at = turn worked in
-    let a = (start at).args in
-    let l = at.before.loop in
-    let got = worked.before.before.incoming-all in
-    let put = worked.put-column in (
-      looped_step a.j (start at).pre.0.good a.input.now l.values got.result put.new.1.0 l.k l.invariant.0 (below at) got.ensures put.ensures,
-      c.next.ensures l.k (stands at),
+loop-k-preserved : tie.Need-loop-k-preserved invariant-loop decreases-loop
+loop-k-preserved c =
+    let a = c.args in
+    let l = c.loop-k in
+    let got = c.incoming_all-got in
+    let put = c.put_column in (
+      looped_step a.j c.requires.0.good a.input.now l.values got.result put.new.values l.k l.invariant.0 (below c.before.before.before.before.before.before) got.ensures put.ensures,
+      c.next-p.ensures l.k (stands c.before.before.before.before.before.before),
     )
 
-same_length : tie.Need-same-length invariant-loop decreases-loop
-same_length c = c.before.loop.invariant.0.size ∙ sym (begun c.before).pre.1.size
+shape_of-values : tie.Need-shape_of-values invariant-loop decreases-loop
+shape_of-values c = c.loop-k.invariant.0.size ∙ sym c.requires.1.size
 
 returns : tie.Need-returns invariant-loop decreases-loop
 returns c =
-    let s = begun c.before in
-    looped_end s.args.j s.args.input.now c.before.loop.values c.before.loop.k c.before.loop.invariant.0 (omega (arith, c.loop-test.false, s.pre.0.count))
+    looped_end c.args.j c.args.input.now c.loop-k.values c.loop-k.k c.loop-k.invariant.0 (omega (arith, c.loop-k-test.false, c.requires.0.count))
 
 pub fill_spec : {M : Type 1} → statement M
-fill_spec = tie.close (tie.spec invariant-loop decreases-loop point-requires loop-holds incoming-all-requires put-column-requires next-requires add-k loop-less loop-again same_length returns)
+fill_spec = tie.close (tie.spec invariant-loop decreases-loop point-p-requires loop-k-init incoming_all-got-requires put_column-requires next-p-requires overflow_add-k loop-k-smaller loop-k-preserved shape_of-values returns)

@@ -10,93 +10,89 @@ use Rattle.array.proofs.LoopLaws.{rowed, incoming_there}
 use Rattle.array.proofs.loops.incoming_all.Statement.{statement}
 use Rattle.array.proofs.loops.incoming_all.Tie as tie
 
-abbrev invariant-loop : tie.invariant-loop
+abbrev invariant-loop : tie.invariant-loop-s
 invariant-loop j input values points p k m got₀ from₀ s₀ got from s = (from ≡ s * points_of j) × Firsts (λ (u : ℕ). incoming j input values u k) got s
 
-abbrev decreases-loop : tie.decreases-loop
+abbrev decreases-loop : tie.decreases-loop-s
 decreases-loop j input values points p k m got₀ from₀ s₀ got from s = m - s
 
-loop-holds : tie.Need-loop-init invariant-loop decreases-loop
-loop-holds c = (omega arith, record { four = refl; done = λ u lu. absurd (omega arith) })
+loop-s-init : tie.Need-loop-s-init invariant-loop decreases-loop
+loop-s-init c = (omega arith, record { four = refl; done = λ u lu. absurd (omega arith) })
 
 -- a stream below m: its row lies in the tables
-module _ (c : tie.In-loop invariant-loop decreases-loop) where
+module _ (c : tie.In-loop-s invariant-loop decreases-loop) where
   abbrev start : tie.Start invariant-loop decreases-loop
   start = c.before.before.before.before
 
-  small : c.before.loop.s < 4
-  small = omega (arith, few_streams start.pre.0.good, c.loop-test.true)
+  small : c.loop-s.s < 4
+  small = omega (arith, few_streams c.requires.0.good, c.loop-s-test.true)
 
-  low : c.before.loop.from + points_of start.args.j ≤ start.args.j.m * points_of start.args.j
-  low = omega (arith, c.before.loop.invariant.0, row_within c.before.loop.s start.args.j.m (points_of start.args.j) c.loop-test.true)
+  low : c.loop-s.from + points_of c.args.j ≤ c.args.j.m * points_of c.args.j
+  low = omega (arith, c.loop-s.invariant.0, row_within c.loop-s.s c.args.j.m (points_of c.args.j) c.loop-s-test.true)
 
-mul-incoming-at : tie.Need-overflow-mul-incoming-at invariant-loop decreases-loop
-mul-incoming-at c = omega (arith, low c, (start c).requires.0.size)
+offset_bounds-input-from : tie.Need-offset_bounds-input-from invariant-loop decreases-loop
+offset_bounds-input-from c = omega (arith, low c, c.requires.0.size)
 
-sub-incoming-at : tie.Need-overflow-sub-incoming-at invariant-loop decreases-loop
-sub-incoming-at c = omega (arith, low c, (start c).requires.0.size)
+slice_bounds-incoming_at-count : tie.Need-slice_bounds-incoming_at-count invariant-loop decreases-loop
+slice_bounds-incoming_at-count c = omega (arith, low c, c.requires.0.size)
 
-part-incoming-at-start : tie.Need-slice-bounds-incoming-at-start invariant-loop decreases-loop
-part-incoming-at-start c = omega (arith, low c, (start c).requires.0.size)
+slice_bounds-incoming_at-start : tie.Need-slice_bounds-incoming_at-start invariant-loop decreases-loop
+slice_bounds-incoming_at-start c = omega (arith, low c, c.requires.0.size)
 
-part-incoming-at-end : tie.Need-slice-bounds-incoming-at-end invariant-loop decreases-loop
-part-incoming-at-end c = omega (arith, low c, (start c).requires.0.size)
+slice_bounds-incoming_at-end : tie.Need-slice_bounds-incoming_at-end invariant-loop decreases-loop
+slice_bounds-incoming_at-end c = omega (arith, low c, c.requires.0.size)
 
-mul-incoming-at-2 : tie.Need-overflow-mul-incoming-at-2 invariant-loop decreases-loop
-mul-incoming-at-2 c = omega (arith, low c.before, (start c.before).pre.1.size)
+offset_bounds-values-from : tie.Need-offset_bounds-values-from invariant-loop decreases-loop
+offset_bounds-values-from c = omega (arith, low c.before, c.requires.1.size)
 
-sub-incoming-at-2 : tie.Need-overflow-sub-incoming-at-2 invariant-loop decreases-loop
-sub-incoming-at-2 c = omega (arith, low c.before, (start c.before).pre.1.size)
+slice_bounds-incoming_at-count-in-loop-s : tie.Need-slice_bounds-incoming_at-count-in-loop-s invariant-loop decreases-loop
+slice_bounds-incoming_at-count-in-loop-s c = omega (arith, low c.before, c.requires.1.size)
 
-part-incoming-at-start-2 : tie.Need-slice-bounds-incoming-at-start-2 invariant-loop decreases-loop
-part-incoming-at-start-2 c = omega (arith, low c.before, (start c.before).pre.1.size)
+slice_bounds-incoming_at-start-in-loop-s : tie.Need-slice_bounds-incoming_at-start-in-loop-s invariant-loop decreases-loop
+slice_bounds-incoming_at-start-in-loop-s c = omega (arith, low c.before, c.requires.1.size)
 
-part-incoming-at-end-2 : tie.Need-slice-bounds-incoming-at-end-2 invariant-loop decreases-loop
-part-incoming-at-end-2 c = omega (arith, low c.before, (start c.before).pre.1.size)
+slice_bounds-incoming_at-end-in-loop-s : tie.Need-slice_bounds-incoming_at-end-in-loop-s invariant-loop decreases-loop
+slice_bounds-incoming_at-end-in-loop-s c = omega (arith, low c.before, c.requires.1.size)
 
-incoming-at-requires : tie.Need-incoming-at-requires invariant-loop decreases-loop
-incoming-at-requires c κs =
-    let at = c.before.before in
-    let q = (start at).requires in
-    let a = (start at).args in
-    let l = at.before.loop in
-    (q.0.good, at.loop-test.true, rowed a.input.now at.loop-test.true l.invariant.0 q.0.size, rowed a.values.now at.loop-test.true l.invariant.0 q.1.size, omega (arith, q.2, q.0.count), q.3)
+incoming_at-v-requires : tie.Need-incoming_at-v-requires invariant-loop decreases-loop
+incoming_at-v-requires c κs =
+    let q = c.requires in
+    let a = c.args in
+    let l = c.loop-s in
+    (q.0.good, c.loop-s-test.true, rowed a.input.now c.loop-s-test.true l.invariant.0 q.0.size, rowed a.values.now c.loop-s-test.true l.invariant.0 q.1.size, omega (arith, q.2, q.0.count), q.3)
 
-cast-i : tie.Need-overflow-cast-i invariant-loop decreases-loop
-cast-i c = omega (arith, small c.before.before.before)
+overflow_cast-i : tie.Need-overflow_cast-i invariant-loop decreases-loop
+overflow_cast-i c = omega (arith, small c.before.before.before)
 
-mul-got : tie.Need-overflow-mul-got invariant-loop decreases-loop
-mul-got c = omega (arith, small c.before.before.before)
+offset_bounds-got-i : tie.Need-offset_bounds-got-i invariant-loop decreases-loop
+offset_bounds-got-i c = omega (arith, small c.before.before.before)
 
-array-write-got : tie.Need-array-write-got invariant-loop decreases-loop
-array-write-got c = omega (arith, small c.before.before.before)
+bounds-got-i : tie.Need-bounds-got-i invariant-loop decreases-loop
+bounds-got-i c = omega (arith, small c.before.before.before)
 
-add-from : tie.Need-overflow-add-from invariant-loop decreases-loop
-add-from c = let at = c.before.before.before in omega (arith, low at, (start at).requires.0.size, (start at).requires.0.count, (start at).well-formed)
+overflow_add-from : tie.Need-overflow_add-from invariant-loop decreases-loop
+overflow_add-from c = omega (arith, low c.before.before.before, c.requires.0.size, c.requires.0.count, c.well_formed)
 
-add-s : tie.Need-overflow-add-s invariant-loop decreases-loop
-add-s c = omega (arith, small c.before.before.before)
+overflow_add-s : tie.Need-overflow_add-s invariant-loop decreases-loop
+overflow_add-s c = omega (arith, small c.before.before.before)
 
-loop-less : tie.Need-loop-smaller invariant-loop decreases-loop
-loop-less c = omega (arith, c.before.before.before.loop-test.true)
+loop-s-smaller : tie.Need-loop-s-smaller invariant-loop decreases-loop
+loop-s-smaller c = omega (arith, c.loop-s-test.true)
 
 -- the next row
 next : {from n points : ℕ} (s : ℕ) → from ≡ s * points → n ≡ points → from + n ≡ (s + 1) * points
 next s e d = omega arith
 
-loop-again : tie.Need-loop-preserved invariant-loop decreases-loop
-loop-again c =
-    let at = c.before.before.before in
-    let a = (start at).args in
-    let l = at.before.loop in (
-      next l.s l.invariant.0 (start at).requires.0.count,
-      firsts_step c.incoming-at.result l.invariant.1 (small at) (c.incoming-at.ensures ∙ incoming_there a.j l.s a.k a.input.now a.values.now l.invariant.0),
+loop-s-preserved : tie.Need-loop-s-preserved invariant-loop decreases-loop
+loop-s-preserved c =
+    let a = c.args in
+    let l = c.loop-s in (
+      next l.s l.invariant.0 c.requires.0.count,
+      firsts_step c.incoming_at-v.result l.invariant.1 (small c.before.before.before) (c.incoming_at-v.ensures ∙ incoming_there a.j l.s a.k a.input.now a.values.now l.invariant.0),
     )
 
 returns : tie.Need-returns invariant-loop decreases-loop
-returns c = λ s ls. c.before.loop.invariant.1.done s (omega (arith, c.loop-test.false))
+returns c = λ s ls. c.loop-s.invariant.1.done s (omega (arith, c.loop-s-test.false))
 
 pub incoming_all_spec : {M : Type 1} → statement M
-incoming_all_spec =
-    tie.close
-    (tie.spec invariant-loop decreases-loop loop-holds mul-incoming-at sub-incoming-at part-incoming-at-start part-incoming-at-end mul-incoming-at-2 sub-incoming-at-2 part-incoming-at-start-2 part-incoming-at-end-2 incoming-at-requires cast-i mul-got array-write-got add-from add-s loop-less loop-again returns)
+incoming_all_spec = tie.close (tie.spec invariant-loop decreases-loop loop-s-init offset_bounds-input-from slice_bounds-incoming_at-count slice_bounds-incoming_at-start slice_bounds-incoming_at-end offset_bounds-values-from slice_bounds-incoming_at-count-in-loop-s slice_bounds-incoming_at-start-in-loop-s slice_bounds-incoming_at-end-in-loop-s incoming_at-v-requires overflow_cast-i offset_bounds-got-i bounds-got-i overflow_add-from overflow_add-s loop-s-smaller loop-s-preserved returns)

@@ -7,53 +7,48 @@ use Rattle.array.proofs.RunLaws.{Running, run_start, run_step, run_end}
 use Rattle.array.proofs.run.all_ticks.Statement.{statement}
 use Rattle.array.proofs.run.all_ticks.Tie as tie
 
-abbrev invariant-loop : tie.invariant-loop
+abbrev invariant-loop : tie.invariant-loop-t
 invariant-loop f timetable ticks input values₀ places₀ t₀ values places t = Running f input places₀ values₀ ticks places values t
 
-abbrev decreases-loop : tie.decreases-loop
+abbrev decreases-loop : tie.decreases-loop-t
 decreases-loop f timetable ticks input values₀ places₀ t₀ values places t = ticks - t
 
 -- the start, from the loop
-abbrev start : tie.At-loop invariant-loop decreases-loop → tie.Start invariant-loop decreases-loop
-start c = let known = c.before in known.before.before.before.before
+abbrev start : tie.At-loop-t invariant-loop decreases-loop → tie.Start invariant-loop decreases-loop
+start c = c.before.before.before.before.before
 
-loop-holds : tie.Need-loop-init invariant-loop decreases-loop
-loop-holds c =
-    let s = c.before.before.before.before in
-    let a = s.args in
-    run_start a.f a.input.now a.places.now a.values.now a.ticks s.requires.1
+loop-t-init : tie.Need-loop-t-init invariant-loop decreases-loop
+loop-t-init c =
+    let a = c.args in
+    run_start a.f a.input.now a.places.now a.values.now a.ticks c.requires.1
 
-one-tick-requires : tie.Need-one-tick-requires invariant-loop decreases-loop
-one-tick-requires c κs =
-    let way = c.before.before.before in
-    let q = (start way).requires in
-    let d = way.loop.invariant in
+one_tick-requires : tie.Need-one_tick-requires invariant-loop decreases-loop
+one_tick-requires c κs =
+    let q = c.requires in
+    let d = c.loop-t.invariant in
     (q.0, d.tabled, roomy_as q.2 d.size, q.3)
 
-add-t : tie.Need-overflow-add-t invariant-loop decreases-loop
-add-t c = omega arith
+overflow_add-t : tie.Need-overflow_add-t invariant-loop decreases-loop
+overflow_add-t c = omega arith
 
-loop-less : tie.Need-loop-smaller invariant-loop decreases-loop
-loop-less c = omega arith
+loop-t-smaller : tie.Need-loop-t-smaller invariant-loop decreases-loop
+loop-t-smaller c = omega arith
 
-loop-again : tie.Need-loop-preserved invariant-loop decreases-loop
-loop-again c =
-    let ticked = c.before.before.before.before in
-    let tested = ticked.before.before.before in
-    let way = tested.before in
-    let a = (start way).args in
-    run_step a.f a.input.now a.places.now a.values.now way.loop.invariant tested.loop-test.true ticked.one-tick.ensures
+loop-t-preserved : tie.Need-loop-t-preserved invariant-loop decreases-loop
+loop-t-preserved c =
+    let a = c.args in
+    run_step a.f a.input.now a.places.now a.values.now c.loop-t.invariant c.loop-t-test.true c.one_tick.ensures
 
-same_length : tie.Need-same-length invariant-loop decreases-loop
-same_length c = c.before.loop.invariant.tabled.size ∙ sym (start c.before).pre.1.size
+shape_of-values : tie.Need-shape_of-values invariant-loop decreases-loop
+shape_of-values c = c.loop-t.invariant.tabled.size ∙ sym c.requires.1.size
 
-same-length-2 : tie.Need-same-length-2 invariant-loop decreases-loop
-same-length-2 c = c.before.loop.invariant.size
+shape_of-places : tie.Need-shape_of-places invariant-loop decreases-loop
+shape_of-places c = c.loop-t.invariant.size
 
 returns : tie.Need-returns invariant-loop decreases-loop
 returns c =
-    let a = (start c.before).args in
-    run_end a.f a.input.now a.places.now a.values.now c.before.loop.invariant (omega (arith, c.loop-test.false))
+    let a = c.args in
+    run_end a.f a.input.now a.places.now a.values.now c.loop-t.invariant (omega (arith, c.loop-t-test.false))
 
 pub all_ticks_spec : {M : Type 1} → statement M
-all_ticks_spec = tie.close (tie.spec invariant-loop decreases-loop loop-holds one-tick-requires add-t loop-less loop-again same_length same-length-2 returns)
+all_ticks_spec = tie.close (tie.spec invariant-loop decreases-loop loop-t-init one_tick-requires overflow_add-t loop-t-smaller loop-t-preserved shape_of-values shape_of-places returns)

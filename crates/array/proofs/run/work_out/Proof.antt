@@ -19,135 +19,118 @@ use Rattle.array.proofs.ReplyLaws.{input_tabled, values_tabled, places_roomy, ru
 use Rattle.array.proofs.run.work_out.Statement.{statement}
 use Rattle.array.proofs.run.work_out.Tie as tie
 
-enum-known-v : tie.Need-enum-known-v
-enum-known-v c = search rules
+enum_known-v : tie.Need-enum_known-v
+enum_known-v c = search rules
 
-returns : tie.Need-returns
-returns c =
-    let s = c.before.before.before.before in
-    inl (record { verdict = s.args.v; is = refl; says = s.requires; refusal = not_accepted s.args.j s.args.v s.requires c.match.keys2; same = (refl, refl) })
+returns-in_default : tie.Need-returns-in_default
+returns-in_default c =
+    inl (record { verdict = c.args.v; is = refl; says = c.requires; refusal = not_accepted c.args.j c.args.v c.requires c.in_default.in_default-own.keys2; same = (refl, refl) })
 
 -- the verdict says accepted
-module _ (c : tie.After-known-told) where
+module _ (c : tie.In-Accepted) where
   abbrev start : tie.Start
-  start = let lent = c.before.before.before in lent.before.before.before
+  start = c.before.before.before.before
 
   abbrev extent : Extent
-  extent = c.before.v.given.0.0
+  extent = c.in-Accepted.extent
 
   abbrev checks : Extent → Checks
-  checks = checks_of start.args.work start.args.j (length start.args.input.now) (length start.args.values.now) (length start.args.places.now)
+  checks = checks_of c.args.work c.args.j (length c.args.input.now) (length c.args.values.now) (length c.args.places.now)
 
-  says : Says start.args.j (Accepted extent)
-  says = subst (Says start.args.j) c.before.v.given.1 start.pre
+  says : Says c.args.j (Accepted extent)
+  says = subst (Says c.args.j) c.in-Accepted.is c.requires
 
-lacking-requires : tie.Need-lacking-requires
-lacking-requires c κs = accepted_limits (says c)
+lacking-reply-requires : tie.Need-lacking-reply-requires
+lacking-reply-requires c κs = accepted_limits (says c)
 
-enum-known-reply : tie.Need-enum-known-reply
-enum-known-reply c = search rules
+enum_known-reply : tie.Need-enum_known-reply
+enum_known-reply c = search rules
 
-returns-2 : tie.Need-returns-2
-returns-2 c = inr (lacks_refuses (says c.before.before) c.before.lacking.ensures c.match2.keys2 (refl, refl))
+returns-in_default-reply : tie.Need-returns-in_default-reply
+returns-in_default-reply c = inr (lacks_refuses (says c.before.before) c.lacking-reply.ensures c.in_default-reply.in_default-reply-own.keys2 (refl, refl))
 
 -- the checks are passed, and the reply is the tick count
-module _ (c : tie.After-known-told2) where
-  abbrev judged : tie.After-known-told
-  judged = c.before.before.before.before
+module _ (c : tie.In-Ticks) where
+  abbrev judged : tie.In-Accepted
+  judged = c.before.before
 
-  taken : Lacks (checks judged) (extent judged) (Ticks c.before.reply.given.0.0)
-  taken = subst (Lacks (checks judged) (extent judged)) c.before.reply.given.1 c.before.before.before.lacking.ensures
+  taken : Lacks (checks c.before.before) (extent c.before.before) (Ticks c.in-Ticks.ticks)
+  taken = subst (Lacks (checks c.before.before) (extent c.before.before)) c.in-Ticks.is c.lacking-reply.ensures
 
   -- there are as many places
-  enough : (extent judged).room ≤ length (start judged).args.places.now
-  enough = (passed (start judged).args.work (start judged).args.j _ _ _ (extent judged) taken.first).2
+  enough : (extent c.before.before).room ≤ length c.args.places.now
+  enough = (passed c.args.work c.args.j _ _ _ (extent c.before.before) taken.first).2
 
-frame-of-requires : tie.Need-frame-of-requires
-frame-of-requires c κs = accepted_runs (says (judged c))
+frame_of-f-requires : tie.Need-frame_of-f-requires
+frame_of-f-requires c κs = accepted_runs (says c.before.before)
 
-slice-aggregate-fill-timetable : tie.Need-slice-aggregate-fill-timetable
-slice-aggregate-fill-timetable c = search rules
+slice_bounds-fill_timetable-end : tie.Need-slice_bounds-fill_timetable-end
+slice_bounds-fill_timetable-end c = search rules
 
-fill-timetable-requires : tie.Need-fill-timetable-requires
-fill-timetable-requires c κs = let F = c.before.frame-of.ensures.1 in (F, few_points F.runnable.acceptable)
+fill_timetable-requires : tie.Need-fill_timetable-requires
+fill_timetable-requires c κs = let F = c.frame_of-f.ensures.1 in (F, few_points F.runnable.acceptable)
 
-slice-aggregate-times : tie.Need-slice-aggregate-times
-slice-aggregate-times c = search rules
+slice_bounds-times-end : tie.Need-slice_bounds-times-end
+slice_bounds-times-end c = search rules
 
-enum_told : tie.Need-enum-told
-enum_told c = search rules
+enum_told-1 : tie.Need-enum_told-1
+enum_told-1 c = search rules
 
 -- the timetable is filled
-abbrev ready : tie.After-fill-timetable → tie.After-known-told2
+abbrev ready : tie.After-fill_timetable → tie.In-Ticks
 ready c = c.before.before.before
 
 clear-requires : tie.Need-clear-requires
-clear-requires c κs = let told = c.before in enough (ready told.before.before.before.before)
+clear-requires c κs = enough c.before.before.before.before.before.before.before
 
 -- the places are cleared
-abbrev filled : tie.After-clear → tie.After-fill-timetable
-filled c = let told = c.before.before in told.before.before.before.before
+abbrev filled : tie.After-clear → tie.After-fill_timetable
+filled c = c.before.before.before.before.before
 
-all-ticks-requires : tie.Need-all-ticks-requires
-all-ticks-requires c κs =
-    let clear = c.before.before.before.before in
-    let fill = filled clear in
-    let at = ready fill in
-    let a = (start (judged at)).args in
-    let s = says (judged at) in
-    let p = (taken at).first in
-    let f = fill.before.before.frame-of.ensures in
-    (input_tabled s a.work p f.0 f.1 refl, values_tabled s a.work p f.0 f.1 refl, places_roomy s a.work p f.0 f.1 (ap length clear.clear.ensures ∙ clear_size a.places.now (extent (judged at)).room (enough at)), fill.fill-timetable.ensures.0)
+all_ticks-requires : tie.Need-all_ticks-requires
+all_ticks-requires c κs =
+    let a = c.args in
+    let s = says c.before.before.before.before.before.before.before.before.before.before.before.before.before.before in
+    let p = (taken c.before.before.before.before.before.before.before.before.before.before.before.before).first in
+    let f = c.frame_of-f.ensures in
+    (input_tabled s a.work p f.0 f.1 refl, values_tabled s a.work p f.0 f.1 refl, places_roomy s a.work p f.0 f.1 (ap length c.clear.ensures ∙ clear_size a.places.now (extent c.before.before.before.before.before.before.before.before.before.before.before.before.before.before).room (enough c.before.before.before.before.before.before.before.before.before.before.before.before)), c.fill_timetable.ensures.0)
 
-enum-known-work : tie.Need-enum-known-work
-enum-known-work c = search rules
+enum_known-work : tie.Need-enum_known-work
+enum_known-work c = search rules
 
 -- what is asked is one tick
-abbrev asked : tie.After-known-told3 → tie.After-fill-timetable
-asked c = let matched = c.before.before in matched.before.before.before
+abbrev asked : tie.In-Tick → tie.After-fill_timetable
+asked c = c.before.before.before
 
-one-tick-requires : tie.Need-one-tick-requires
-one-tick-requires c κs =
-    let fill = asked c.before.before in
-    let at = ready fill in
-    let a = (start (judged at)).args in
-    let s = says (judged at) in
-    let p = (taken at).first in
-    let f = fill.before.before.frame-of.ensures in
-    (input_tabled s a.work p f.0 f.1 refl, values_tabled s a.work p f.0 f.1 refl, places_roomy s a.work p f.0 f.1 refl, fill.fill-timetable.ensures.0)
+one_tick-requires : tie.Need-one_tick-requires
+one_tick-requires c κs =
+    let a = c.args in
+    let s = says c.before.before.before.before.before.before.before.before.before.before in
+    let p = (taken c.before.before.before.before.before.before.before.before).first in
+    let f = c.frame_of-f.ensures in
+    (input_tabled s a.work p f.0 f.1 refl, values_tabled s a.work p f.0 f.1 refl, places_roomy s a.work p f.0 f.1 refl, c.fill_timetable.ensures.0)
 
-same_length : tie.Need-same-length
-same_length c = search rules
+shape_of-values-in-Run : tie.Need-shape_of-values-in-Run
+shape_of-values-in-Run c = search rules
 
-same-length-2 : tie.Need-same-length-2
-same-length-2 c = search rules
+shape_of-places-in-Run : tie.Need-shape_of-places-in-Run
+shape_of-places-in-Run c = search rules
 
-returns-3 : tie.Need-returns-3
-returns-3 c =
-    let ran = c.before.before.before.before in
-    let lent = ran.before.before.before in
-    let clear = lent.before.before in
-    let fill = filled clear in
-    let at = ready fill in
-    let a = (start (judged at)).args in
-    run_done a.work a.input.now a.values.now a.places.now _ _ (says (judged at)) (taken at) fill.before.before.frame-of.ensures.0 clear.before.before.enum_told.given.1 clear.clear.ensures ran.all-ticks.ensures
+returns-in-Run : tie.Need-returns-in-Run
+returns-in-Run c =
+    let a = c.args in
+    run_done a.work a.input.now a.values.now a.places.now _ _ (says c.before.before.before.before.before.before.before.before.before.before.before.before.before.before.before.before.before.before.before) (taken c.before.before.before.before.before.before.before.before.before.before.before.before.before.before.before.before.before) c.frame_of-f.ensures.0 c.in-Run.is c.clear.ensures c.all_ticks.ensures
 
-same-length-3 : tie.Need-same-length-3
-same-length-3 c = search rules
+shape_of-values-in-Tick : tie.Need-shape_of-values-in-Tick
+shape_of-values-in-Tick c = search rules
 
-same-length-4 : tie.Need-same-length-4
-same-length-4 c = search rules
+shape_of-places-in-Tick : tie.Need-shape_of-places-in-Tick
+shape_of-places-in-Tick c = search rules
 
-returns-4 : tie.Need-returns-4
-returns-4 c =
-    let ticked = c.before.before.before.before in
-    let single = ticked.before.before.before in
-    let fill = asked single in
-    let at = ready fill in
-    let a = (start (judged at)).args in
-    tick_done a.work a.input.now a.values.now a.places.now _ _ (says (judged at)) (taken at) fill.before.before.frame-of.ensures.0 single.before.work.given.1 ticked.one-tick.ensures
+returns-in-Tick : tie.Need-returns-in-Tick
+returns-in-Tick c =
+    let a = c.args in
+    tick_done a.work a.input.now a.values.now a.places.now _ _ (says c.before.before.before.before.before.before.before.before.before.before.before.before.before.before.before) (taken c.before.before.before.before.before.before.before.before.before.before.before.before.before) c.frame_of-f.ensures.0 c.in-Tick.is c.one_tick.ensures
 
 pub work_out_spec : {M : Type 1} → statement M
-work_out_spec =
-    tie.close
-    (tie.spec enum-known-v returns lacking-requires enum-known-reply returns-2 frame-of-requires slice-aggregate-fill-timetable fill-timetable-requires slice-aggregate-times enum_told clear-requires all-ticks-requires enum-known-work one-tick-requires same_length same-length-2 returns-3 same-length-3 same-length-4 returns-4)
+work_out_spec = tie.close (tie.spec enum_known-v returns-in_default lacking-reply-requires enum_known-reply returns-in_default-reply frame_of-f-requires slice_bounds-fill_timetable-end fill_timetable-requires slice_bounds-times-end enum_told-1 clear-requires all_ticks-requires enum_known-work one_tick-requires shape_of-values-in-Run shape_of-places-in-Run returns-in-Run shape_of-values-in-Tick shape_of-places-in-Tick returns-in-Tick)

@@ -19,135 +19,132 @@ use Rattle.array.proofs.LendingLaws.{band_is, some_delay, place_is, place_in}
 use Rattle.array.proofs.WorkLaws.{taken_some, taken_none}
 use Rattle.array.proofs.work.incoming_all.Statement.{statement}
 use Rattle.array.proofs.work.incoming_all.Tie as tie
+use Rattle.array.proofs.work.incoming_all.Lts.{in-At, in-Nowhere}
 
-abbrev invariant-loop : tie.invariant-loop
+abbrev invariant-loop : tie.invariant-loop-s
 invariant-loop f t input places spot m got₀ s₀ got s = Firsts (λ (u : ℕ). taken f.job input t places u spot.cell spot.place) got s
 
-abbrev decreases-loop : tie.decreases-loop
+abbrev decreases-loop : tie.decreases-loop-s
 decreases-loop f t input places spot m got₀ s₀ got s = m - s
 
-loop-holds : tie.Need-loop-init invariant-loop decreases-loop
-loop-holds c = record { four = refl; done = λ u lu. absurd (omega arith) }
+loop-s-init : tie.Need-loop-s-init invariant-loop decreases-loop
+loop-s-init c = record { four = refl; done = λ u lu. absurd (omega arith) }
 
 -- a stream below m
-module _ (c : tie.In-loop invariant-loop decreases-loop) where
+module _ (c : tie.In-loop-s invariant-loop decreases-loop) where
   abbrev start : tie.Start invariant-loop decreases-loop
-  start = let copied = c.before.before in copied.before.before
+  start = c.before.before.before.before
 
   abbrev s : ℕ
-  s = c.before.loop.s
+  s = c.loop-s.s
 
   small : s < 4
-  small = omega (arith, few_streams start.pre.0.framed.runnable.acceptable, c.loop-test.true)
+  small = omega (arith, few_streams c.requires.0.framed.runnable.acceptable, c.loop-s-test.true)
 
-cast-i : tie.Need-overflow-cast-i invariant-loop decreases-loop
-cast-i c = omega (arith, small c)
+overflow_cast-i : tie.Need-overflow_cast-i invariant-loop decreases-loop
+overflow_cast-i c = omega (arith, small c)
 
-previous-at-requires : tie.Need-previous-at-requires invariant-loop decreases-loop
-previous-at-requires c κs =
-    let q = (start c).requires in
-    (q.0.framed.runnable.acceptable, omega (arith, c.loop-test.true), stands_in _ (start c).args.spot.place q.2.low q.2.point)
+previous_at-found-requires : tie.Need-previous_at-found-requires invariant-loop decreases-loop
+previous_at-found-requires c κs =
+    let q = c.requires in
+    (q.0.framed.runnable.acceptable, omega (arith, c.loop-s-test.true), stands_in _ c.args.spot.place q.2.low q.2.point)
 
-enum-known-found : tie.Need-enum-known-found invariant-loop decreases-loop
-enum-known-found c = search rules
+enum_known-found : tie.Need-enum_known-found invariant-loop decreases-loop
+enum_known-found c = search rules
 
 -- what was asked on the stream
-module _ (c : tie.After-previous-at invariant-loop decreases-loop) where
-  abbrev turn : tie.In-loop invariant-loop decreases-loop
-  turn = c.before
+module _ (c : tie.After-previous_at-found invariant-loop decreases-loop) where
+  abbrev turn : tie.In-loop-s invariant-loop decreases-loop
+  turn = c.before.before.before
 
-  found : {o : Option ℕ} → found_of c.previous-at.result ≡ o → previous (start turn).args.f.job (s turn) (start turn).args.spot.place ≡ o
-  found e = sym (c.previous-at.ensures (start turn).args.spot.place (start turn).pre.2.point) ∙ e
+  found : {o : Option ℕ} → found_of c.previous_at-found.result ≡ o → previous c.args.f.job (s c.before.before.before) c.args.spot.place ≡ o
+  found e = sym (c.previous_at-found.ensures c.args.spot.place c.requires.2.point) ∙ e
 
-band-at-requires : tie.Need-band-at-requires invariant-loop decreases-loop
-band-at-requires c κs = let told = c.before.before in small (turn told.before)
+band_at-b-requires : tie.Need-band_at-b-requires invariant-loop decreases-loop
+band_at-b-requires c κs = small c.before.before.before.before.before
 
 -- the stream's band, where the point before is in the box
-module _ (c : tie.After-band-at invariant-loop decreases-loop) where
-  abbrev told : tie.After-previous-at invariant-loop decreases-loop
-  told = let match = c.before.before.before in match.before
+module _ (c : tie.After-band_at-b invariant-loop decreases-loop) where
+  abbrev told : tie.After-previous_at-found invariant-loop decreases-loop
+  told = c.before.before.before
 
-  banded : Banded (start (turn told)).args.f.job (s (turn told)) c.band-at.result
-  banded = band_is (start (turn told)).pre.0.framed (turn told).loop-test.taken c.band-at.ensures
+  banded : Banded c.args.f.job (s c.before.before.before.before.before.before) c.band_at-b.result
+  banded = band_is c.requires.0.framed c.loop-s-test.true c.band_at-b.ensures
 
-standing-at-requires : tie.Need-standing-at-requires invariant-loop decreases-loop
-standing-at-requires c κs =
-    let at = turn (told c) in
-    let q = (start at).pre in
-    let a = (start at).args in
-    let h = at.loop-test.taken in
+standing_at-requires : tie.Need-standing_at-requires invariant-loop decreases-loop
+standing_at-requires c κs =
+    let q = c.requires in
+    let a = c.args in
+    let h = c.loop-s-test.true in
     let in_cells = cell_below a.f.job q.0.framed.runnable.acceptable a.spot.place q.2.low in
     (some_delay q.0.framed h (banded c), place_in q.0.framed h (banded c) q.1 a.t a.spot.cell (omega (arith, q.2.cell, in_cells)))
 
-mul-got : tie.Need-overflow-mul-got invariant-loop decreases-loop
-mul-got c = omega (arith, small (turn (told c.before)))
+offset_bounds-got-i : tie.Need-offset_bounds-got-i invariant-loop decreases-loop
+offset_bounds-got-i c = omega (arith, small c.before.before.before.before.before.before.before)
 
-array-write-got : tie.Need-array-write-got invariant-loop decreases-loop
-array-write-got c = small (turn (told c.before))
+bounds-got-i : tie.Need-bounds-got-i invariant-loop decreases-loop
+bounds-got-i c = small c.before.before.before.before.before.before.before
 
-enum_told : tie.Need-enum-told invariant-loop decreases-loop
-enum_told c = search rules
+enum_told-1 : tie.Need-enum_told-1 invariant-loop decreases-loop
+enum_told-1 c = search rules
 
-place-in-table-requires : tie.Need-place-in-table-requires invariant-loop decreases-loop
-place-in-table-requires c κs =
-    let at = turn c.before.before in
-    let q = (start at).pre in
+place_in_table-from-requires : tie.Need-place_in_table-from-requires invariant-loop decreases-loop
+place_in_table-from-requires c κs =
+    let q = c.requires in
     let n = few_points q.0.framed.runnable.acceptable in
-    (omega (arith, small at), omega (arith, q.0.framed.points), omega (arith, q.2.low))
+    (omega (arith, small c.before.before.before.before), omega (arith, q.0.framed.points), omega (arith, q.2.low))
 
 -- where the input is read
-module _ (c : tie.After-place-in-table invariant-loop decreases-loop) where
-  abbrev asked : tie.After-previous-at invariant-loop decreases-loop
-  asked = c.before.before.before
+module _ (c : tie.After-place_in_table-from invariant-loop decreases-loop) where
+  abbrev asked : tie.After-previous_at-found invariant-loop decreases-loop
+  asked = c.before.before
 
-  there : c.place-in-table.result ≡ s (turn asked) * points (start (turn asked)).args.f.job + (start (turn asked)).args.spot.place
-  there = place_as (start (turn asked)).args.f.job _ _ c.place-in-table.ensures.1 (start (turn asked)).pre.0.framed.points
+  there : c.place_in_table-from.result ≡ s c.before.before.before.before.before * points c.args.f.job + c.args.spot.place
+  there = place_as c.args.f.job _ _ c.place_in_table-from.ensures.1 c.requires.0.framed.points
 
-mul-got-2 : tie.Need-overflow-mul-got-2 invariant-loop decreases-loop
-mul-got-2 c = omega (arith, c.place-in-table.ensures.0)
+offset_bounds-input-from : tie.Need-offset_bounds-input-from invariant-loop decreases-loop
+offset_bounds-input-from c = omega (arith, c.place_in_table-from.ensures.0)
 
-shared-slice-read-got : tie.Need-shared-slice-read-got invariant-loop decreases-loop
-shared-slice-read-got c =
-    let at = turn (asked c.before) in
-    let a = (start at).args in
-    let q = (start at).pre in
-    omega (arith, there c.before, entry_in a.f.job (s at) a.spot.place at.loop-test.taken q.2.low, q.0.size)
+bounds-input-from : tie.Need-bounds-input-from invariant-loop decreases-loop
+bounds-input-from c =
+    let a = c.args in
+    let q = c.requires in
+    omega (arith, there c.before, entry_in a.f.job (s c.before.before.before.before.before.before) a.spot.place c.loop-s-test.true q.2.low, q.0.size)
 
-mul-got-3 : tie.Need-overflow-mul-got-3 invariant-loop decreases-loop
-mul-got-3 c = omega (arith, small (turn (asked c.before)))
+offset_bounds-got-i-in-Nowhere : tie.Need-offset_bounds-got-i-in-Nowhere invariant-loop decreases-loop
+offset_bounds-got-i-in-Nowhere c = omega (arith, small c.before.before.before.before.before.before)
 
-array-write-got-2 : tie.Need-array-write-got-2 invariant-loop decreases-loop
-array-write-got-2 c = small (turn (asked c.before))
+bounds-got-i-in-Nowhere : tie.Need-bounds-got-i-in-Nowhere invariant-loop decreases-loop
+bounds-got-i-in-Nowhere c = small c.before.before.before.before.before.before
 
-add-s : tie.Need-overflow-add-s invariant-loop decreases-loop
-add-s c = omega (arith, small (turn c.before))
+overflow_add-s : tie.Need-overflow_add-s invariant-loop decreases-loop
+overflow_add-s c = omega (arith, small c.before.before.before.before)
 
-loop-less : tie.Need-loop-smaller invariant-loop decreases-loop
-loop-less c = omega (arith, (turn c.before).loop-test.taken)
+loop-s-smaller : tie.Need-loop-s-smaller invariant-loop decreases-loop
+loop-s-smaller c = omega (arith, c.loop-s-test.true)
 
 -- one more is got
 one_more : {f : ℕ → ℕ} {got after : List ℕ} {s v : ℕ} → Firsts f got s → s < 4 → after ≡ set got s v → v ≡ f s → Firsts f after (s + 1)
 one_more d ls e ev = rw e (firsts_step _ d ls ev)
 
-loop-again : tie.Need-loop-preserved invariant-loop decreases-loop
-loop-again c =
-    let at = turn c.before in
-    let a = (start at).args in
-    let l = at.before.loop in
-    ⊎_elim
-    (λ y.
-    let read : tie.After-band-at invariant-loop decreases-loop = record { before = record { before = record { before = record { before = c.before; match = y.0 }; found = y.1 }; known-told = y.2 }; band-at = y.3 } in
-    let there = ap (λ (i : ℕ). get_or a.places.now i 0) (place_is (start at).pre.0.framed at.loop-test.taken (banded read) a.t a.spot.cell) in
-    one_more l.invariant (small at) y.5 (y.4.ensures ∙ there ∙ taken_some a.f.job a.input.now a.t a.places.now (s at) a.spot.cell a.spot.place _ (found c.before (ap found_of y.1.given.1))))
-    (λ n.
-    let read : tie.After-place-in-table invariant-loop decreases-loop = record { before = record { before = record { before = c.before; match = n.0 }; enum_told = n.1 }; place-in-table = n.2 } in
-    one_more l.invariant (small at) n.4 (ap (λ (i : ℕ). get_or a.input.now i 0) (there read) ∙ taken_none a.f.job a.input.now a.t a.places.now (s at) a.spot.cell a.spot.place (found c.before (ap found_of n.1.given.1))))
-    c.match.branch
+loop-s-preserved : tie.Need-loop-s-preserved invariant-loop decreases-loop
+loop-s-preserved c =
+    let a = c.args in
+    let l = c.loop-s in
+    elim c.match-found.branch [
+      | in-At y ↦
+          let read : tie.After-band_at-b invariant-loop decreases-loop = record { before = record { before = record { before = c.before; in-At = y.in-At }; band_at-arg-1 = y.band_at-arg-1 }; band_at-b = y.band_at-b } in
+          let there = ap (λ (i : ℕ). get_or a.places.now i 0) (place_is c.requires.0.framed c.loop-s-test.true (banded read) a.t a.spot.cell) in
+          one_more l.invariant (small c.before.before.before.before) y.got-is
+          (y.standing_at.ensures ∙ there ∙ taken_some a.f.job a.input.now a.t a.places.now (s c.before.before.before.before) a.spot.cell a.spot.place _ (found c.before (ap found_of y.in-At.is)))
+      | in-Nowhere n ↦
+          let read : tie.After-place_in_table-from invariant-loop decreases-loop = record { before = record { before = c.before; in-Nowhere = n.in-Nowhere }; place_in_table-from = n.place_in_table-from } in
+          one_more l.invariant (small c.before.before.before.before) n.got-is
+          (ap (λ (i : ℕ). get_or a.input.now i 0) (there read) ∙ taken_none a.f.job a.input.now a.t a.places.now (s c.before.before.before.before) a.spot.cell a.spot.place (found c.before (ap found_of n.in-Nowhere.is)))
+    ]
 
 returns : tie.Need-returns invariant-loop decreases-loop
-returns c = λ s ls. c.before.loop.invariant.done s (omega (arith, c.loop-test.false))
+returns c = λ s ls. c.loop-s.invariant.done s (omega (arith, c.loop-s-test.false))
 
 pub incoming_all_spec : {M : Type 1} → statement M
-incoming_all_spec =
-    tie.close
-    (tie.spec invariant-loop decreases-loop loop-holds cast-i previous-at-requires enum-known-found band-at-requires standing-at-requires mul-got array-write-got enum_told place-in-table-requires mul-got-2 shared-slice-read-got mul-got-3 array-write-got-2 add-s loop-less loop-again returns)
+incoming_all_spec = tie.close (tie.spec invariant-loop decreases-loop loop-s-init overflow_cast-i previous_at-found-requires enum_known-found band_at-b-requires standing_at-requires offset_bounds-got-i bounds-got-i enum_told-1 place_in_table-from-requires offset_bounds-input-from bounds-input-from offset_bounds-got-i-in-Nowhere bounds-got-i-in-Nowhere overflow_add-s loop-s-smaller loop-s-preserved returns)

@@ -19,141 +19,135 @@ use Rattle.array.proofs.WorkLaws.{put_start, put_step, put_end}
 use Rattle.array.proofs.work.put_values.Statement.{statement}
 use Rattle.array.proofs.work.put_values.Tie as tie
 
-abbrev invariant-loop : tie.invariant-loop
+abbrev invariant-loop : tie.invariant-loop-s
 invariant-loop f t values places₀ spot m s₀ places s = (s ≤ m) × Put f.job t values spot.cell spot.place s places₀ places
 
-abbrev decreases-loop : tie.decreases-loop
+abbrev decreases-loop : tie.decreases-loop-s
 decreases-loop f t values places₀ spot m s₀ places s = m - s
 
-loop-holds : tie.Need-loop-init invariant-loop decreases-loop
-loop-holds c = (omega arith, put_start c.before.before.args.places.now)
+loop-s-init : tie.Need-loop-s-init invariant-loop decreases-loop
+loop-s-init c = (omega arith, put_start c.args.places.now)
 
 -- a stream below m
-module _ (c : tie.In-loop invariant-loop decreases-loop) where
+module _ (c : tie.In-loop-s invariant-loop decreases-loop) where
   abbrev start : tie.Start invariant-loop decreases-loop
-  start = let way = c.before.before in way.before.before
+  start = c.before.before.before.before
 
   abbrev s : ℕ
-  s = c.before.loop.s
+  s = c.loop-s.s
 
   small : s < 4
-  small = omega (arith, few_streams start.pre.0.framed.runnable.acceptable, c.loop-test.true)
+  small = omega (arith, few_streams c.requires.0.framed.runnable.acceptable, c.loop-s-test.true)
 
   -- the places are enough still
-  roomy : Roomy start.args.f c.before.loop.places
-  roomy = roomy_as start.pre.1 c.before.loop.invariant.1.size
+  roomy : Roomy c.args.f c.loop-s.places
+  roomy = roomy_as c.requires.1 c.loop-s.invariant.1.size
 
-  in_cells : start.args.spot.cell < cells start.args.f.job
-  in_cells = let q = start.pre in omega (arith, q.2.cell, cell_below start.args.f.job q.0.framed.runnable.acceptable start.args.spot.place q.2.low)
+  in_cells : c.args.spot.cell < cells c.args.f.job
+  in_cells = let q = c.requires in omega (arith, q.2.cell, cell_below c.args.f.job q.0.framed.runnable.acceptable c.args.spot.place q.2.low)
 
-band-at-requires : tie.Need-band-at-requires invariant-loop decreases-loop
-band-at-requires c κs = small c
+band_at-b-requires : tie.Need-band_at-b-requires invariant-loop decreases-loop
+band_at-b-requires c κs = small c.before
 
 -- its band
-module _ (c : tie.After-band-at invariant-loop decreases-loop) where
+module _ (c : tie.After-band_at-b invariant-loop decreases-loop) where
   abbrev begun : tie.Start invariant-loop decreases-loop
-  begun = start c.before
+  begun = c.before.before.before.before.before.before
 
-  banded : Banded begun.args.f.job (s c.before) c.band-at.result
-  banded = band_is begun.pre.0.framed c.before.loop-test.true c.band-at.ensures
+  banded : Banded c.args.f.job (s c.before.before) c.band_at-b.result
+  banded = band_is c.requires.0.framed c.loop-s-test.true c.band_at-b.ensures
 
   -- it lies in the places
-  in_it : c.band-at.result.from + begun.args.f.cells * c.band-at.result.w ≤ length c.before.before.loop.places
-  in_it = fits begun.pre.0.framed c.before.loop-test.true banded (roomy c.before)
+  in_it : c.band_at-b.result.from + c.args.f.cells * c.band_at-b.result.w ≤ length c.loop-s.places
+  in_it = fits c.requires.0.framed c.loop-s-test.true banded (roomy c.before.before)
 
   -- and they are few
-  few : length c.before.before.loop.places * 4 < 2 ^ 64
-  few = omega (arith, begun.good, c.before.before.loop.invariant.1.size)
+  few : length c.loop-s.places * 4 < 2 ^ 64
+  few = omega (arith, c.well_formed, c.loop-s.invariant.1.size)
 
-mul-end : tie.Need-overflow-mul-end invariant-loop decreases-loop
-mul-end c = let at = c.before.before in omega (arith, in_it at, few at)
+overflow_mul-end : tie.Need-overflow_mul-end invariant-loop decreases-loop
+overflow_mul-end c = omega (arith, in_it c.before.before, few c.before.before)
 
-add-end : tie.Need-overflow-add-end invariant-loop decreases-loop
-add-end c = let at = c.before.before in omega (arith, in_it at, few at)
+overflow_add-end : tie.Need-overflow_add-end invariant-loop decreases-loop
+overflow_add-end c = omega (arith, in_it c.before.before, few c.before.before)
 
-place-in-table-requires : tie.Need-place-in-table-requires invariant-loop decreases-loop
-place-in-table-requires c κs =
-    let at = c.before.before in
-    let q = (begun at).requires in
+place_in_table-i-requires : tie.Need-place_in_table-i-requires invariant-loop decreases-loop
+place_in_table-i-requires c κs =
+    let q = c.requires in
     let n = few_points q.0.framed.runnable.acceptable in
-    (omega (arith, small at.before), omega (arith, q.0.framed.points), omega (arith, q.2.low))
+    (omega (arith, small c.before.before.before.before), omega (arith, q.0.framed.points), omega (arith, q.2.low))
 
 -- where the value stands
-module _ (c : tie.After-place-in-table invariant-loop decreases-loop) where
-  abbrev band : tie.After-band-at invariant-loop decreases-loop
+module _ (c : tie.After-place_in_table-i invariant-loop decreases-loop) where
+  abbrev band : tie.After-band_at-b invariant-loop decreases-loop
   band = c.before.before.before
 
-  there : c.place-in-table.result ≡ s band.before * points (begun band).args.f.job + (begun band).args.spot.place
-  there = place_as (begun band).args.f.job _ _ c.place-in-table.ensures.1 (begun band).pre.0.framed.points
+  there : c.place_in_table-i.result ≡ s c.before.before.before.before.before * points c.args.f.job + c.args.spot.place
+  there = place_as c.args.f.job _ _ c.place_in_table-i.ensures.1 c.requires.0.framed.points
 
-mul-v : tie.Need-overflow-mul-v invariant-loop decreases-loop
-mul-v c = omega (arith, c.place-in-table.ensures.0)
+offset_bounds-values-i : tie.Need-offset_bounds-values-i invariant-loop decreases-loop
+offset_bounds-values-i c = omega (arith, c.place_in_table-i.ensures.0)
 
-shared-slice-read-v : tie.Need-shared-slice-read-v invariant-loop decreases-loop
-shared-slice-read-v c =
-    let at = c.before in
-    let a = (begun (band at)).args in
-    let q = (begun (band at)).pre in
-    omega (arith, there at, entry_in a.f.job (s (band at).before) a.spot.place (band at).before.loop-test.true q.2.low, q.0.size)
+bounds-values-i : tie.Need-bounds-values-i invariant-loop decreases-loop
+bounds-values-i c =
+    let a = c.args in
+    let q = c.requires in
+    omega (arith, there c.before, entry_in a.f.job (s c.before.before.before.before.before.before) a.spot.place c.loop-s-test.true q.2.low, q.0.size)
 
-mul-put-value : tie.Need-overflow-mul-put-value invariant-loop decreases-loop
-mul-put-value c = let at = band c.before in omega (arith, in_it at, few at)
+offset_bounds-places-from : tie.Need-offset_bounds-places-from invariant-loop decreases-loop
+offset_bounds-places-from c = omega (arith, in_it c.before.before.before.before, few c.before.before.before.before)
 
-sub-put-value : tie.Need-overflow-sub-put-value invariant-loop decreases-loop
-sub-put-value c = omega arith
+slice_bounds-put_value-count : tie.Need-slice_bounds-put_value-count invariant-loop decreases-loop
+slice_bounds-put_value-count c = omega arith
 
-part-put-value-start : tie.Need-slice-bounds-put-value-start invariant-loop decreases-loop
-part-put-value-start c = omega arith
+slice_bounds-put_value-start : tie.Need-slice_bounds-put_value-start invariant-loop decreases-loop
+slice_bounds-put_value-start c = omega arith
 
-part-put-value-end : tie.Need-slice-bounds-put-value-end invariant-loop decreases-loop
-part-put-value-end c = omega (arith, in_it (band c.before))
+slice_bounds-put_value-end : tie.Need-slice_bounds-put_value-end invariant-loop decreases-loop
+slice_bounds-put_value-end c = omega (arith, in_it c.before.before.before.before)
 
-rem-put-value : tie.Need-nonzero-rem-put-value invariant-loop decreases-loop
-rem-put-value c = let at = band c.before.before.before in some_delay (begun at).pre.0.framed at.before.loop-test.taken (banded at)
+nonzero_rem-t : tie.Need-nonzero_rem-t invariant-loop decreases-loop
+nonzero_rem-t c = some_delay c.requires.0.framed c.loop-s-test.true (banded c.before.before.before.before.before.before)
 
 -- where it goes in the band
-module _ (c : tie.After-band-at invariant-loop decreases-loop) where
-  goes : (begun c).args.spot.cell * c.band-at.result.w + (begun c).args.t % c.band-at.result.w ≡ (begun c).args.spot.cell * w (begun c).args.f.job (s c.before) + (begun c).args.t % w (begun c).args.f.job (s c.before)
-  goes = ap (λ (n : ℕ). (begun c).args.spot.cell * n + (begun c).args.t % n) (banded c).delay
+module _ (c : tie.After-band_at-b invariant-loop decreases-loop) where
+  goes : c.args.spot.cell * c.band_at-b.result.w + c.args.t % c.band_at-b.result.w ≡ c.args.spot.cell * w c.args.f.job (s c.before.before) + c.args.t % w c.args.f.job (s c.before.before)
+  goes = ap (λ (n : ℕ). c.args.spot.cell * n + c.args.t % n) (banded c).delay
 
-  inside : (begun c).args.t % w (begun c).args.f.job (s c.before) < w (begun c).args.f.job (s c.before)
-  inside = mod-lt (begun c).args.t (delay_some (begun c).requires.0.framed.runnable c.before.loop-test.true)
+  inside : c.args.t % w c.args.f.job (s c.before.before) < w c.args.f.job (s c.before.before)
+  inside = mod-lt c.args.t (delay_some c.requires.0.framed.runnable c.loop-s-test.true)
 
-put-value-requires : tie.Need-put-value-requires invariant-loop decreases-loop
-put-value-requires c κs =
-    let at = band c.before.before.before in
-    let q = (begun at).pre in
-    let h = at.before.loop-test.taken in
-    omega (arith, goes at, digits_lt (in_cells at.before) (inside at), size_is q.0.framed h (banded at), part_size at.before.before.loop.places at.band-at.result.from ((begun at).args.f.cells * at.band-at.result.w) (in_it at))
+put_value-requires : tie.Need-put_value-requires invariant-loop decreases-loop
+put_value-requires c κs =
+    let q = c.requires in
+    let h = c.loop-s-test.true in
+    omega (arith, goes c.before.before.before.before.before.before, digits_lt (in_cells c.before.before.before.before.before.before.before.before) (inside c.before.before.before.before.before.before), size_is q.0.framed h (banded c.before.before.before.before.before.before), part_size c.loop-s.places c.band_at-b.result.from (c.args.f.cells * c.band_at-b.result.w) (in_it c.before.before.before.before.before.before))
 
 -- where the band came back
-abbrev returned : tie.After-slice-known2 invariant-loop decreases-loop → tie.After-place-in-table invariant-loop decreases-loop
-returned c = let put = c.before.before in put.before.before.before.before
+abbrev returned : tie.After-slice_known-in-loop-s-1 invariant-loop decreases-loop → tie.After-place_in_table-i invariant-loop decreases-loop
+returned c = c.before.before.before.before.before.before
 
-add-s : tie.Need-overflow-add-s invariant-loop decreases-loop
-add-s c = omega (arith, small (band (returned c)).before)
+overflow_add-s : tie.Need-overflow_add-s invariant-loop decreases-loop
+overflow_add-s c = omega (arith, small c.before.before.before.before.before.before.before.before.before.before.before)
 
-loop-less : tie.Need-loop-smaller invariant-loop decreases-loop
-loop-less c = omega (arith, (band (returned c)).before.loop-test.taken)
+loop-s-smaller : tie.Need-loop-s-smaller invariant-loop decreases-loop
+loop-s-smaller c = omega (arith, c.loop-s-test.true)
 
-loop-again : tie.Need-loop-preserved invariant-loop decreases-loop
-loop-again c =
-    let at = band (returned c) in
-    let a = (begun at).args in
-    let q = (begun at).pre in
-    let h = at.before.loop-test.taken in
-    let put = c.before.before.put-value.ensures in
-    let value = ap (λ (i : ℕ). get_or a.values.now i 0) (there (returned c)) in
-    let goes_there = ap (λ (i : ℕ). set (part at.band-at.result.from (a.f.cells * at.band-at.result.w) at.before.before.loop.places) i (get_or a.values.now (returned c).place-in-table.result 0)) (goes at) in
-    (omega (arith, h), put_step q.0.framed h (banded at) (get_or a.values.now (returned c).place-in-table.result 0) (in_cells at.before) q.1 at.before.before.loop.invariant.1 (put ∙ goes_there) value)
+loop-s-preserved : tie.Need-loop-s-preserved invariant-loop decreases-loop
+loop-s-preserved c =
+    let a = c.args in
+    let q = c.requires in
+    let h = c.loop-s-test.true in
+    let put = c.put_value.ensures in
+    let value = ap (λ (i : ℕ). get_or a.values.now i 0) (there c.before.before.before.before.before.before) in
+    let goes_there = ap (λ (i : ℕ). set (part c.band_at-b.result.from (a.f.cells * c.band_at-b.result.w) c.loop-s.places) i (get_or a.values.now c.place_in_table-i.result 0)) (goes c.before.before.before.before.before.before.before.before.before) in
+    (omega (arith, h), put_step q.0.framed h (banded c.before.before.before.before.before.before.before.before.before) (get_or a.values.now c.place_in_table-i.result 0) (in_cells c.before.before.before.before.before.before.before.before.before.before.before) q.1 c.loop-s.invariant.1 (put ∙ goes_there) value)
 
-same_length : tie.Need-same-length invariant-loop decreases-loop
-same_length c = c.before.loop.invariant.1.size
+shape_of-places : tie.Need-shape_of-places invariant-loop decreases-loop
+shape_of-places c = c.loop-s.invariant.1.size
 
 returns : tie.Need-returns invariant-loop decreases-loop
-returns c = let l = c.before.loop in put_end (omega (arith, l.invariant.0, c.loop-test.false)) l.invariant.1
+returns c = let l = c.loop-s in put_end (omega (arith, l.invariant.0, c.loop-s-test.false)) l.invariant.1
 
 pub put_values_spec : {M : Type 1} → statement M
-put_values_spec =
-    tie.close
-    (tie.spec invariant-loop decreases-loop loop-holds band-at-requires mul-end add-end place-in-table-requires mul-v shared-slice-read-v mul-put-value sub-put-value part-put-value-start part-put-value-end rem-put-value put-value-requires add-s loop-less loop-again same_length returns)
+put_values_spec = tie.close (tie.spec invariant-loop decreases-loop loop-s-init band_at-b-requires overflow_mul-end overflow_add-end place_in_table-i-requires offset_bounds-values-i bounds-values-i offset_bounds-places-from slice_bounds-put_value-count slice_bounds-put_value-start slice_bounds-put_value-end nonzero_rem-t put_value-requires overflow_add-s loop-s-smaller loop-s-preserved shape_of-places returns)
