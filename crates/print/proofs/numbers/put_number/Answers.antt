@@ -13,17 +13,17 @@ same e = ap (λ (x : Number). decimal (value_of x)) e
 
 pub put_digits-requires : goal.put_digits-requires
 unfolding decimal
-put_digits-requires c = fits_as (same c.x-1.given.1) c.requires
+put_digits-requires c = fits_as (same c.in-Count.is) c.requires
 
 pub put_signed-requires : goal.put_signed-requires
 put_signed-requires c =
-    fits_as (same c.x-in-Signed-1.given.1 ∙ decimal_held (in_range c.known_told-in-Signed-1.given.0.1)) c.requires
+    fits_as (same c.in-Signed.is ∙ decimal_held (in_range c.in-Signed.known_told-in-Signed-1-own.given.0.1)) c.requires
 
 pub returns-in-Count : goal.returns-in-Count
 unfolding decimal
 returns-in-Count c =
-    put_as (same c.x-1.given.1) c.put_digits.ensures
+    put_as (same c.in-Count.is) c.put_digits.ensures
 
 pub returns-in-Signed : goal.returns-in-Signed
 returns-in-Signed c =
-    put_as (same c.x-in-Signed-1.given.1 ∙ decimal_held (in_range c.known_told-in-Signed-1.given.0.1)) c.put_signed.ensures
+    put_as (same c.in-Signed.is ∙ decimal_held (in_range c.in-Signed.known_told-in-Signed-1-own.given.0.1)) c.put_signed.ensures

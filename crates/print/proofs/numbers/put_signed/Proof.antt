@@ -11,49 +11,39 @@ use Rattle.print.proofs.numbers.put_signed.Statement.{statement}
 use Rattle.print.proofs.numbers.put_signed.Tie as tie
 
 -- what is put, by the test
-minus : (c : tie.Then1) → decimal c.before.before.before.args.x ≡ (45 ∷ []) ++ digits 20 c.before.size.result
+minus : (c : tie.Then-x-lt0) → decimal c.args.x ≡ (45 ∷ []) ++ digits 20 c.size-size.result
 minus c =
-    let start = c.before.before.before in
-    decimal_held start.ranges.x ∙ decimal_minus (held start.args.x) c.if1.true ∙ ap (λ (n : ℕ). (45 ∷ []) ++ digits 20 n) (sym c.before.size.ensures)
+    decimal_held c.ranges.x ∙ decimal_minus (held c.args.x) c.if-x-lt0.true ∙ ap (λ (n : ℕ). (45 ∷ []) ++ digits 20 n) (sym c.size-size.ensures)
 
-plus : (c : tie.Else1) → decimal c.before.before.before.args.x ≡ digits 20 c.before.size.result
+plus : (c : tie.Else-x-lt0) → decimal c.args.x ≡ digits 20 c.size-size.result
 plus c =
-    let start = c.before.before.before in
-    decimal_held start.ranges.x ∙ decimal_plus (held start.args.x) c.if1.false ∙ ap (digits 20) (sym c.before.size.ensures)
+    decimal_held c.ranges.x ∙ decimal_plus (held c.args.x) c.if-x-lt0.false ∙ ap (digits 20) (sym c.size-size.ensures)
 
-size-requires : tie.Need-size-requires
-size-requires c κs = search rules
+size-size-requires : tie.Need-size-size-requires
+size-size-requires c κs = search rules
 
-slice-aggregate-put-bytes : tie.Need-slice-aggregate-put-bytes
-slice-aggregate-put-bytes c = search rules
+put_bytes-next-requires : tie.Need-put_bytes-next-requires
+put_bytes-next-requires c κs = first (45 ∷ []) _ (fits_as (minus c.before.before.before) c.requires)
 
-put-bytes-requires : tie.Need-put-bytes-requires
-put-bytes-requires c κs = let negative = c.before.before in first (45 ∷ []) _ (fits_as (minus negative) negative.before.before.before.requires)
+put_digits-requires : tie.Need-put_digits-requires
+put_digits-requires c κs =
+    left (45 ∷ []) _ (fits_as (minus c.before.before.before.before.before.before.before) c.requires) c.put_bytes-next.ensures
 
-put-digits-requires : tie.Need-put-digits-requires
-put-digits-requires c κs =
-    let sign = c.before.before.before in
-    let negative = sign.before.before.before in
-    left (45 ∷ []) _ (fits_as (minus negative) negative.before.before.before.requires) sign.put-bytes.ensures
+shape_of-out-then-x-lt0 : tie.Need-shape_of-out-then-x-lt0
+shape_of-out-then-x-lt0 c = search rules
 
-same_length : tie.Need-same-length
-same_length c = search rules
+returns-then-x-lt0 : tie.Need-returns-then-x-lt0
+returns-then-x-lt0 c =
+    put_as (minus c.before.before.before.before.before.before.before.before.before.before) (and_then c.put_bytes-next.ensures (first (45 ∷ []) _ (fits_as (minus c.before.before.before.before.before.before.before.before.before.before) c.requires)) c.put_digits.ensures)
+
+put_digits-requires-2 : tie.Need-put_digits-requires-2
+put_digits-requires-2 c κs = fits_as (plus c.before) c.requires
+
+shape_of-out : tie.Need-shape_of-out
+shape_of-out c = search rules
 
 returns : tie.Need-returns
-returns c =
-    let size = c.before.before in
-    let sign = size.before.before.before.before in
-    let negative = sign.before.before.before in
-    put_as (minus negative) (and_then sign.put-bytes.ensures (first (45 ∷ []) _ (fits_as (minus negative) negative.before.before.before.requires)) size.put-digits.ensures)
-
-put-digits-requires-2 : tie.Need-put-digits-requires-2
-put-digits-requires-2 c κs = let natural = c.before in fits_as (plus natural) natural.before.before.before.requires
-
-same-length-2 : tie.Need-same-length-2
-same-length-2 c = search rules
-
-returns-2 : tie.Need-returns-2
-returns-2 c = let put = c.before.before in put_as (plus put.before.before) put.put-digits2.ensures
+returns c = put_as (plus c.before.before.before.before) c.put_digits-2.ensures
 
 pub put_signed_spec : {M : Type 1} → statement M
-put_signed_spec = tie.close (tie.spec size-requires slice-aggregate-put-bytes put-bytes-requires put-digits-requires same_length returns put-digits-requires-2 same-length-2 returns-2)
+put_signed_spec = tie.close (tie.spec size-size-requires put_bytes-next-requires put_digits-requires shape_of-out-then-x-lt0 returns-then-x-lt0 put_digits-requires-2 shape_of-out returns)

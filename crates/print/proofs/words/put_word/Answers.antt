@@ -5,9 +5,6 @@ use Rattle.print.proofs.Cutting.{within, word_cut}
 use borrow.Author.Rules.{rules}
 use Rattle.print.proofs.words.put_word.Goals as goal
 
-slice-aggregate-put-part : tie.Need-slice-aggregate-put-part
-slice-aggregate-put-part c = search rules
-
 pub put_part-requires : goal.put_part-requires
 put_part-requires c =
     let w = within c.args.w in
