@@ -96,15 +96,23 @@ pub fn put_fields(out: &mut [u8], at: usize, said: Said) -> usize
     }
 }
 
-// The same by a writer that holds its buffer.
+// The same by a writer that holds its buffer, which is handed on.
 pub fn fields<'a>(l: Line<'a>, said: Said) -> Line<'a>
     requires { Fits l.out.now l.at (fields_bytes (besides said.n said.verdict)) }
     ensures { result ≡ wrote l.entry (fields_bytes (besides said.n said.verdict)) }
 {
+    let mut writer = l;
+    add_fields(&mut writer, said);
+    writer
+}
+
+// The same, in the writer's place.
+pub fn add_fields<'a>(l: &mut Line<'a>, said: Said)
+    requires { Fits l.old.out.now l.old.at (fields_bytes (besides said.n said.verdict)) }
+    ensures wrote { l.new ≡ wrote l.old (fields_bytes (besides said.n said.verdict)) }
+    ensures same_reference { l.new.out.ghost_name ≡ l.old.out.ghost_name }
+{
     let at = l.at;
     let next = put_fields(&mut *l.out, at, said);
-    Line {
-        out: l.out,
-        at: next,
-    }
+    l.at = next;
 }

@@ -6,8 +6,8 @@ ghost use Rattle.print.specs.Words.{word_bytes};
 ghost use Rattle.line.specs.Fields.{fields_bytes, lead, besides};
 ghost use Rattle.line.specs.Lines.{line_of, Writes};
 
-use crate::said::{Said, fields};
-use print::line_writer::{begin, end, number, word};
+use crate::said::{Said, add_fields};
+use print::line_writer::{add_number, add_word, begin, end};
 use print::numbers::Number;
 use print::words::Word;
 use verdict::judge::Verdict;
@@ -53,8 +53,10 @@ fn put_line(out: &mut [u8], lead: Word, first: Number, said: Said) -> usize
     requires { Fits out.old 0 (word_bytes lead ++ decimal (value_of first) ++ fields_bytes (besides said.n said.verdict) ++ word_bytes Word.End) }
     ensures { Put out.old 0 (word_bytes lead ++ decimal (value_of first) ++ fields_bytes (besides said.n said.verdict) ++ word_bytes Word.End) result out.new }
 {
-    end(word(
-        fields(number(word(begin(out, 0), lead), first), said),
-        Word::End,
-    ))
+    let mut l = begin(out, 0);
+    add_word(&mut l, lead);
+    add_number(&mut l, first);
+    add_fields(&mut l, said);
+    add_word(&mut l, Word::End);
+    end(l)
 }

@@ -9,8 +9,8 @@ use Rattle.line.proofs.Rows.{room_first, room_rest, put_rest}
 use Rattle.line.proofs.said.put_pair.Statement.{statement}
 use Rattle.line.proofs.said.put_pair.Tie as tie
 
-abbrev start : tie.After-put-point → tie.Start
-start c = let point = c.before in point.before.before.before.before
+abbrev start : tie.After-put_point-i → tie.Start
+start c = c.before.before.before.before.before
 
 -- the coordinates of each point
 abbrev first : tie.Start → List Field
@@ -19,27 +19,22 @@ first c = coordinates Word.Pair (take c.args.n (entries c.args.pair.p))
 abbrev second : tie.Start → List Field
 second c = coordinates Word.Slash (take c.args.n (entries c.args.pair.q))
 
-put-point-requires : tie.Need-put-point-requires
+put_point-i-requires : tie.Need-put_point-i-requires
 unfolding pair_fields
-put-point-requires c κs = let s = c.before.before.before.before in room_first (first s) (second s) s.requires
+put_point-i-requires c κs = room_first (first c.before.before.before.before) (second c.before.before.before.before) c.requires
 
-put-point-requires-2 : tie.Need-put-point-requires-2
+put_point-requires : tie.Need-put_point-requires
 unfolding pair_fields
-put-point-requires-2 c κs =
-    let one = c.before.before.before in
-    let s = start one in
-    room_rest (first s) (second s) s.pre one.put-point.ensures
+put_point-requires c κs =
+    room_rest (first c.before.before.before.before.before.before.before.before) (second c.before.before.before.before.before.before.before.before) c.requires c.put_point-i.ensures
 
-same_length : tie.Need-same-length
-same_length c = search rules
+shape_of-out : tie.Need-shape_of-out
+shape_of-out c = search rules
 
 returns : tie.Need-returns
 unfolding pair_fields
 returns c =
-    let two = c.before.before in
-    let one = two.before.before.before.before in
-    let s = start one in
-    put_rest (first s) (second s) s.pre one.put-point.ensures two.put-point2.ensures
+    put_rest (first c.before.before.before.before.before.before.before.before.before.before.before) (second c.before.before.before.before.before.before.before.before.before.before.before) c.requires c.put_point-i.ensures c.put_point.ensures
 
 pub put_pair_spec : {M : Type 1} → statement M
-put_pair_spec = tie.close (tie.spec put-point-requires put-point-requires-2 same_length returns)
+put_pair_spec = tie.close (tie.spec put_point-i-requires put_point-requires shape_of-out returns)

@@ -6,72 +6,57 @@ use Rattle.line.proofs.said.put_point.Statement.{statement}
 use Rattle.line.proofs.said.put_point.Tie as tie
 
 -- the moments of the walk: before and after each coordinate
-abbrev start : tie.After-put-coordinate → tie.Start
+abbrev start : tie.After-put_coordinate-i → tie.Start
 start c = c.before.before.before.before
 
-abbrev first : tie.After-struct-told2 → tie.After-put-coordinate
+abbrev first : tie.After-struct_told-2-1 → tie.After-put_coordinate-i
 first c = c.before.before.before.before
 
-abbrev second : tie.After-struct-told3 → tie.After-put-coordinate2
+abbrev second : tie.After-struct_told-3-1 → tie.After-put_coordinate-j
 second c = c.before.before.before.before
 
-abbrev third : tie.After-struct-told4 → tie.After-put-coordinate3
+abbrev third : tie.After-struct_told-4-1 → tie.After-put_coordinate-k
 third c = c.before.before.before.before
 
-put-coordinate-requires : tie.Need-put-coordinate-requires
-put-coordinate-requires c κs =
-    let s = c.before.before.before in
-    room_one _ _ _ s.args.n 0 (fits_as (point_as _ s.args.n s.args.p c.struct_told.given) s.requires)
+put_coordinate-i-requires : tie.Need-put_coordinate-i-requires
+put_coordinate-i-requires c κs =
+    room_one _ _ _ c.args.n 0 (fits_as (point_as _ c.args.n c.args.p c.struct_told-1.given) c.requires)
 
-put-coordinate-requires-2 : tie.Need-put-coordinate-requires-2
-put-coordinate-requires-2 c κs =
-    let one = first c in
-    let s = start one in
-    let n = s.args.n in
-    let room0 = fits_as (point_as _ s.args.n s.args.p c.struct-told2.given) s.pre in
-    room_one _ _ _ n 1 (room_others _ _ _ n 0 room0 one.put-coordinate.ensures)
+put_coordinate-j-requires : tie.Need-put_coordinate-j-requires
+put_coordinate-j-requires c κs =
+    let n = c.args.n in
+    let room0 = fits_as (point_as _ c.args.n c.args.p c.struct_told-2-1.given) c.requires in
+    room_one _ _ _ n 1 (room_others _ _ _ n 0 room0 c.put_coordinate-i.ensures)
 
-put-coordinate-requires-3 : tie.Need-put-coordinate-requires-3
-put-coordinate-requires-3 c κs =
-    let two = second c in
-    let one = first two.before in
-    let s = start one in
-    let n = s.args.n in
-    let room0 = fits_as (point_as _ s.args.n s.args.p c.struct-told3.given) s.pre in
-    let room1 = room_others _ _ _ n 0 room0 one.put-coordinate.ensures in
-    room_one _ _ _ n 2 (room_others _ _ _ n 1 room1 two.put-coordinate2.ensures)
+put_coordinate-k-requires : tie.Need-put_coordinate-k-requires
+put_coordinate-k-requires c κs =
+    let n = c.args.n in
+    let room0 = fits_as (point_as _ c.args.n c.args.p c.struct_told-3-1.given) c.requires in
+    let room1 = room_others _ _ _ n 0 room0 c.put_coordinate-i.ensures in
+    room_one _ _ _ n 2 (room_others _ _ _ n 1 room1 c.put_coordinate-j.ensures)
 
-put-coordinate-requires-4 : tie.Need-put-coordinate-requires-4
-put-coordinate-requires-4 c κs =
-    let three = third c in
-    let two = second three.before in
-    let one = first two.before in
-    let s = start one in
-    let n = s.args.n in
-    let room0 = fits_as (point_as _ s.args.n s.args.p c.struct-told4.given) s.pre in
-    let room1 = room_others _ _ _ n 0 room0 one.put-coordinate.ensures in
-    let room2 = room_others _ _ _ n 1 room1 two.put-coordinate2.ensures in
-    room_others _ _ _ n 2 room2 three.put-coordinate3.ensures
+put_coordinate-requires : tie.Need-put_coordinate-requires
+put_coordinate-requires c κs =
+    let n = c.args.n in
+    let room0 = fits_as (point_as _ c.args.n c.args.p c.struct_told-4-1.given) c.requires in
+    let room1 = room_others _ _ _ n 0 room0 c.put_coordinate-i.ensures in
+    let room2 = room_others _ _ _ n 1 room1 c.put_coordinate-j.ensures in
+    room_others _ _ _ n 2 room2 c.put_coordinate-k.ensures
 
-same_length : tie.Need-same-length
-same_length c = search rules
+shape_of-out : tie.Need-shape_of-out
+shape_of-out c = search rules
 
 returns : tie.Need-returns
 returns c =
-    let four = c.before.before in
-    let three = third four.before in
-    let two = second three.before in
-    let one = first two.before in
-    let s = start one in
-    let n = s.args.n in
-    let whole = point_as _ s.args.n s.args.p four.before.struct-told4.given in
-    let room0 = fits_as whole s.pre in
-    let room1 = room_others _ _ _ n 0 room0 one.put-coordinate.ensures in
-    let room2 = room_others _ _ _ n 1 room1 two.put-coordinate2.ensures in
+    let n = c.args.n in
+    let whole = point_as _ c.args.n c.args.p c.struct_told-4-1.given in
+    let room0 = fits_as whole c.requires in
+    let room1 = room_others _ _ _ n 0 room0 c.put_coordinate-i.ensures in
+    let room2 = room_others _ _ _ n 1 room1 c.put_coordinate-j.ensures in
     put_as whole
-    (put_others _ _ _ n 0 room0 one.put-coordinate.ensures
-    (put_others _ _ _ n 1 room1 two.put-coordinate2.ensures
-    (put_others _ _ _ n 2 room2 three.put-coordinate3.ensures four.put-coordinate4.ensures)))
+    (put_others _ _ _ n 0 room0 c.put_coordinate-i.ensures
+    (put_others _ _ _ n 1 room1 c.put_coordinate-j.ensures
+    (put_others _ _ _ n 2 room2 c.put_coordinate-k.ensures c.put_coordinate.ensures)))
 
 pub put_point_spec : {M : Type 1} → statement M
-put_point_spec = tie.close (tie.spec put-coordinate-requires put-coordinate-requires-2 put-coordinate-requires-3 put-coordinate-requires-4 same_length returns)
+put_point_spec = tie.close (tie.spec put_coordinate-i-requires put_coordinate-j-requires put_coordinate-k-requires put_coordinate-requires shape_of-out returns)

@@ -1,0 +1,10 @@
+-- One field: the stream.
+use borrow.Author.Rules.{rules}
+use Rattle.line.proofs.Rows.{room_head, put_last}
+use Rattle.line.proofs.said.put_stream.Goals as goal
+
+pub put_field-requires : goal.put_field-requires
+put_field-requires c = room_head _ _ _ c.requires
+
+pub returns : goal.returns
+returns c = put_last _ _ c.put_field.ensures
