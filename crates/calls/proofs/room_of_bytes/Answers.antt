@@ -1,0 +1,6 @@
+-- The room count in the verdict on the bytes.
+use borrow.Author.Rules.{rules}
+use Rattle.calls.proofs.room_of_bytes.Goals as goal
+
+pub returns : goal.returns
+returns c = (c.verdict_of_bytes.result, c.verdict_of_bytes.ensures, c.room_in.ensures)
