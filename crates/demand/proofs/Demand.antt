@@ -40,7 +40,7 @@ module _ (j : Job) (z : Extent) (says : Says j (Accepted z)) where
       entry : (s k : ℕ) → s < j.m → k < points j → entry_for j values' s k ≡ entry_for j looped s k
       entry s k ls lk =
           ap (λ (v : List ℕ). entry_for j v s k) (sym steps.last_table)
-          ∙ Core.array-is-loop (machine j input) (nest j input) (job_mapped j (rules_kept j z says) input) (run_of j input steps) (entry_for j looped) (loop_solves j input looped loop) s k ls lk (tick_below j (accepted_limits says) k lk)
+          ∙ Core.array_is_loop (machine j input) (nest j input) (job_mapped j (rules_kept j z says) input) (run_of j input steps) (entry_for j looped) (loop_solves j input looped loop) s k ls lk (tick_below j (accepted_limits says) k lk)
 
   -- what comes in at the point at place k, in its tick at its cell, from the places as the ticks before leave them, is what the loop takes in there
   pub demand_3_incoming : (input places values looped : List ℕ) → Looped j input looped → (s k : ℕ) → s < j.m → k < points j → (places' values' : List ℕ) → Ran j input places values (tick_of j k) places' values' → arrayIncoming j input (tick_of j k) places' s (cell_of j k) k ≡ loopIncoming j input looped s k
@@ -52,7 +52,7 @@ module _ (j : Job) (z : Extent) (says : Says j (Accepted z)) where
 
       there : incoming (machine j input) (tick_of j k) (in_place j (steps.rooms (tick_of j k))) s (cell_of j k) k ≡ taken (machine j input) (nest j input) (entry_for j looped) s k
       there =
-          Core.incoming-is-loop (machine j input) (nest j input) (job_mapped j (rules_kept j z says) input) (run_of j input steps) (entry_for j looped) (loop_solves j input looped loop) s k ls (lk, omega arith)
+          Core.incoming_is_loop (machine j input) (nest j input) (job_mapped j (rules_kept j z says) input) (run_of j input steps) (entry_for j looped) (loop_solves j input looped loop) s k ls (lk, omega arith)
 
   -- and the run comes to those places, before the tick of every point
   pub demand_3_reached : (input places values places' values' : List ℕ) → Ran j input places values (ticks j) places' values' → (k : ℕ) → k < points j → (p v : List ℕ) × Ran j input places values (tick_of j k) p v
@@ -61,7 +61,7 @@ module _ (j : Job) (z : Extent) (says : Says j (Accepted z)) where
   -- each point is worked within the run, in one tick at one cell
   pub worked_once : (k : ℕ) → k < points j → (tick_of j k < ticks j) × (cell_of j k < cells j) × (point_at j (tick_of j k) (cell_of j k) ≡ some k) × ((t x : ℕ) → point_at j t x ≡ some k → (t ≡ tick_of j k) × (x ≡ cell_of j k))
   worked_once k lk =
-      let h = Core.worked-once (machine j []) (nest j []) (job_mapped j (rules_kept j z says) []) k lk in
+      let h = Core.worked_once (machine j []) (nest j []) (job_mapped j (rules_kept j z says) []) k lk in
       (tick_below j (accepted_limits says) k lk, cell_below j (accepted_limits says) k lk, h.0, h.1)
 
   -- and nothing else is worked
