@@ -2,13 +2,32 @@
 
 #![tactic(auto)]
 
-use libc::{STDIN_FILENO, STDOUT_FILENO};
+ghost use Rattle.std.specs.Prelude.{◌≤◌, IfOk, length};
 
-fn main() {
+use std::io;
+use std::io::{Read, Write};
+
+fn main(rt: HostRuntime) -> io::Result<()> {
     // The longest job, and a byte more, by which a longer input is refused.
     let mut input = [0u8; 69];
-    let got = io::read_full(STDIN_FILENO, &mut input);
+    let got = read_full(&mut rt.stdin(), &mut input)?;
     let mut out = [0u8; line::write::LONGEST];
     let length = calls::line_of_bytes(&mut out, &input[..got]);
-    io::write_all(STDOUT_FILENO, &out[..length]);
+    rt.stdout().write_all(&out[..length])
+}
+
+// Reads until the buffer is full or the input ends, and says how many bytes were read.
+fn read_full<R: Read>(from: &mut R, into: &mut [u8]) -> io::Result<usize>
+    ensures { IfOk result (λ n. n ≤ length into.new) }
+{
+    let mut got = 0;
+    // Each turn reads a byte at least, or is the last.
+    for _ in 0..into.len() {
+        let more = from.read(&mut into[got..])?;
+        if more == 0 {
+            break;
+        }
+        got += more;
+    }
+    Ok(got)
 }
