@@ -3,8 +3,9 @@
 #![tactic(auto)]
 
 use job::record::Job;
-use libc::STDOUT_FILENO;
 use reader::reading::Reading;
+use std::io;
+use std::io::Write;
 use writer::Wrote;
 
 // The 30 bytes of document 01: box 0..1 squared, one local stream along (0,1), H (1,2), S (1,2).
@@ -16,8 +17,8 @@ fn thirty() -> [u8; 30] {
 }
 
 // Writes a text.
-fn say(text: &[u8]) {
-    io::write_all(STDOUT_FILENO, text);
+fn say<W: Write>(out: &mut W, text: &[u8]) -> io::Result<()> {
+    out.write_all(text)
 }
 
 // Whether writing the job gives the bytes that it was read from.
@@ -27,7 +28,7 @@ fn is_written_back(j: Job, s: &[u8]) -> bool {
     let Wrote::Total(total) = wrote else {
         return false;
     };
-    check::same(front(&buffer, total), s)
+    front(&buffer, total) == s
 }
 
 // The first n bytes, or all where there are not so many.
@@ -44,20 +45,20 @@ fn wide(n: u8) -> u64 {
 }
 
 // One line: the name, and what the reader answers.
-fn tell(name: &[u8], s: &[u8]) {
-    say(name);
+fn tell<W: Write>(out: &mut W, name: &[u8], s: &[u8]) -> io::Result<()> {
+    say(out, name)?;
     let read = reader::reading::read(s);
     match read {
         Reading::Refused(n) => {
-            say(b": refused ");
-            io::print_decimal(STDOUT_FILENO, wide(n));
-            say(b"\n");
+            say(out, b": refused ")?;
+            write!(out, "{}", wide(n))?;
+            say(out, b"\n")
         }
         Reading::Job(j) => {
             if is_written_back(j, s) {
-                say(b": a job, and written back the same\n");
+                say(out, b": a job, and written back the same\n")
             } else {
-                say(b": a job, and written back otherwise\n");
+                say(out, b": a job, and written back otherwise\n")
             }
         }
     }
@@ -81,72 +82,73 @@ fn boxed(first: u8, second: u8) -> [u8; 30] {
 }
 
 // Too few bytes and too many.
-fn lengths() {
+fn lengths<W: Write>(out: &mut W) -> io::Result<()> {
     let s = thirty();
-    tell(b"the 30 bytes", &s);
-    tell(b"no byte", front(&s, 0));
-    tell(b"15 bytes", front(&s, 15));
-    tell(b"the header alone", front(&s, 16));
-    tell(b"29 bytes", front(&s, 29));
+    tell(out, b"the 30 bytes", &s)?;
+    tell(out, b"no byte", front(&s, 0))?;
+    tell(out, b"15 bytes", front(&s, 15))?;
+    tell(out, b"the header alone", front(&s, 16))?;
+    tell(out, b"29 bytes", front(&s, 29))?;
     // the longest job, and a byte more: four dimensions, two place rows, four streams
     let l =
         b"\x01\0\x04\x02\x04\0\x10\0\x18\0\x38\0\x44\0\0\0\0\x01\0\x01\0\x01\xff\x01\x01\0\0\0\0\0\0\0\0\x01\0\0\x01\x01\0\x03\0\0\x01\0\0\x02\x01\x01\0\0\0\x01\0\0\0\0\x01\x01\x01\x01\x01\0\0\0\0\x01\0\x7f\0";
-    tell(b"the longest job, 68 bytes", front(l, 68));
-    tell(b"with one byte more", l);
-    tell(b"with one byte less", front(l, 67));
+    tell(out, b"the longest job, 68 bytes", front(l, 68))?;
+    tell(out, b"with one byte more", l)?;
+    tell(out, b"with one byte less", front(l, 67))
 }
 
 // What is wrong in a header.
-fn headers() {
-    tell(b"form 0", &changed(0, 0));
-    tell(b"form 2", &changed(0, 2));
-    tell(b"form 257", &changed(1, 1));
-    tell(b"n 0", &changed(2, 0));
-    tell(b"n 5", &changed(2, 5));
-    tell(b"k 0", &changed(3, 0));
-    tell(b"k 3", &changed(3, 3));
-    tell(b"m 0", &changed(4, 0));
-    tell(b"m 5", &changed(4, 5));
-    tell(b"byte 5 not zero", &changed(5, 1));
-    tell(b"byte 14 not zero", &changed(14, 1));
-    tell(b"byte 15 not zero", &changed(15, 1));
-    tell(b"n 1 with the offsets of 2", &changed(2, 1));
-    tell(b"offset of the box 17", &changed(6, 17));
-    tell(b"offset of the streams 21", &changed(8, 21));
-    tell(b"offset of the matrices 27", &changed(10, 27));
-    tell(b"total 31", &changed(12, 31));
-    tell(b"total 30 + 256", &changed(13, 1));
+fn headers<W: Write>(out: &mut W) -> io::Result<()> {
+    tell(out, b"form 0", &changed(0, 0))?;
+    tell(out, b"form 2", &changed(0, 2))?;
+    tell(out, b"form 257", &changed(1, 1))?;
+    tell(out, b"n 0", &changed(2, 0))?;
+    tell(out, b"n 5", &changed(2, 5))?;
+    tell(out, b"k 0", &changed(3, 0))?;
+    tell(out, b"k 3", &changed(3, 3))?;
+    tell(out, b"m 0", &changed(4, 0))?;
+    tell(out, b"m 5", &changed(4, 5))?;
+    tell(out, b"byte 5 not zero", &changed(5, 1))?;
+    tell(out, b"byte 14 not zero", &changed(14, 1))?;
+    tell(out, b"byte 15 not zero", &changed(15, 1))?;
+    tell(out, b"n 1 with the offsets of 2", &changed(2, 1))?;
+    tell(out, b"offset of the box 17", &changed(6, 17))?;
+    tell(out, b"offset of the streams 21", &changed(8, 21))?;
+    tell(out, b"offset of the matrices 27", &changed(10, 27))?;
+    tell(out, b"total 31", &changed(12, 31))?;
+    tell(out, b"total 30 + 256", &changed(13, 1))
 }
 
 // What is wrong in a box.
-fn bounds() {
-    tell(b"bound -128", &changed(16, 128));
-    tell(b"bound -127", &changed(16, 129));
-    tell(b"0..-1", &changed(17, 255));
-    tell(b"0..31 by 0..31", &boxed(31, 31));
-    tell(b"0..31 by 0..32", &boxed(31, 32));
+fn bounds<W: Write>(out: &mut W) -> io::Result<()> {
+    tell(out, b"bound -128", &changed(16, 128))?;
+    tell(out, b"bound -127", &changed(16, 129))?;
+    tell(out, b"0..-1", &changed(17, 255))?;
+    tell(out, b"0..31 by 0..31", &boxed(31, 31))?;
+    tell(out, b"0..31 by 0..32", &boxed(31, 32))
 }
 
 // What is wrong in a stream or a row.
-fn streams() {
-    tell(b"d (0,2)", &changed(21, 2));
-    tell(b"d (0,-1)", &changed(21, 255));
-    tell(b"d (0,0)", &changed(21, 0));
-    tell(b"d (15,1)", &changed(20, 15));
-    tell(b"d (16,1)", &changed(20, 16));
-    tell(b"d (-1,1)", &changed(20, 255));
-    tell(b"kind 2", &changed(22, 2));
-    tell(b"rule 3", &changed(23, 3));
-    tell(b"rule 1, sources 0 and 0", &changed(23, 1));
-    tell(b"rule 0, source a 1", &changed(24, 1));
-    tell(b"H entry -128", &changed(26, 128));
-    tell(b"S entry -128", &changed(29, 128));
-    tell(b"S entry -127", &changed(29, 129));
+fn streams<W: Write>(out: &mut W) -> io::Result<()> {
+    tell(out, b"d (0,2)", &changed(21, 2))?;
+    tell(out, b"d (0,-1)", &changed(21, 255))?;
+    tell(out, b"d (0,0)", &changed(21, 0))?;
+    tell(out, b"d (15,1)", &changed(20, 15))?;
+    tell(out, b"d (16,1)", &changed(20, 16))?;
+    tell(out, b"d (-1,1)", &changed(20, 255))?;
+    tell(out, b"kind 2", &changed(22, 2))?;
+    tell(out, b"rule 3", &changed(23, 3))?;
+    tell(out, b"rule 1, sources 0 and 0", &changed(23, 1))?;
+    tell(out, b"rule 0, source a 1", &changed(24, 1))?;
+    tell(out, b"H entry -128", &changed(26, 128))?;
+    tell(out, b"S entry -128", &changed(29, 128))?;
+    tell(out, b"S entry -127", &changed(29, 129))
 }
 
-fn main() {
-    lengths();
-    headers();
-    bounds();
-    streams();
+fn main(rt: HostRuntime) -> io::Result<()> {
+    let mut out = rt.stdout();
+    lengths(&mut out)?;
+    headers(&mut out)?;
+    bounds(&mut out)?;
+    streams(&mut out)
 }
