@@ -3,57 +3,73 @@ use crate::guarded::{GUARD, front, is_guarded, is_same, part, rest};
 use crate::print::{every, holds, number, reply, say, wide};
 use job::numbers::Counted;
 use job::record::Job;
+use std::io::{self, Write};
 use verdict::judge::Verdict;
 
 // The replies of run and loop, with the run's value table and so many of 80 places lent; then their values side by side, or that nothing was altered.
-pub fn compare(j: Job, input: &[u32], run: &mut [u32], lent: usize) {
+pub fn compare<W: Write>(
+    out: &mut W,
+    j: Job,
+    input: &[u32],
+    run: &mut [u32],
+    lent: usize,
+) -> io::Result<()> {
     let mut places = [GUARD; 80];
     let a = checks::counted(array::run::run_of(j, input, &mut run[..], part(&mut places, lent)));
-    reply(b"run", a, b" 0 ticks");
-    unchanged(a, &run[..], &places);
-    beside(j, input, a, &run[..]);
-    ticked(j, input, a, &run[..], &places);
+    reply(out, b"run", a, b" 0 ticks")?;
+    unchanged(out, a, &run[..], &places)?;
+    beside(out, j, input, a, &run[..])?;
+    ticked(out, j, input, a, &run[..], &places)
 }
 
 // After a refusal: is everything as it was?
-pub fn unchanged(a: Counted, table: &[u32], places: &[u32]) {
+pub fn unchanged<W: Write>(
+    out: &mut W,
+    a: Counted,
+    table: &[u32],
+    places: &[u32],
+) -> io::Result<()> {
     if a.number != 0 {
-        holds(b"unchanged", is_guarded(table) & is_guarded(places));
+        holds(out, b"unchanged", is_guarded(table) & is_guarded(places))?;
     }
+    Ok(())
 }
 
 // The loop's reply, and where the run was not refused, the values of both.
-fn beside(j: Job, input: &[u32], a: Counted, run: &[u32]) {
+fn beside<W: Write>(out: &mut W, j: Job, input: &[u32], a: Counted, run: &[u32]) -> io::Result<()> {
     let mut looped = [GUARD; 81];
     let n = run.len();
     let b = array::loops::counted(array::loops::loop_of(j, input, part(&mut looped, n)));
-    reply(b"loop", b, b" 0 points");
-    unchanged(b, &looped, run);
+    reply(out, b"loop", b, b" 0 points")?;
+    unchanged(out, b, &looped, run)?;
     if a.number == 0 {
-        streams(j, run, front(&looped, n));
+        streams(out, j, run, front(&looped, n))?;
     }
+    Ok(())
 }
 
 // A line for each stream.
-fn streams(j: Job, run: &[u32], looped: &[u32]) {
+fn streams<W: Write>(out: &mut W, j: Job, run: &[u32], looped: &[u32]) -> io::Result<()> {
     for s in 0..j.m {
         stream(
+            out,
             s,
             tables::rows::row_of(j, run, s),
             tables::rows::row_of(j, looped, s),
-        );
+        )?;
     }
+    Ok(())
 }
 
 // The values of one stream, by run and by loop.
-fn stream(s: u8, run: &[u32], looped: &[u32]) {
-    say(b"stream");
-    number(wide(s));
-    say(b" run");
-    every(1, run);
-    say(b" loop");
-    every(1, looped);
-    holds(b" same", is_same(run, looped));
+fn stream<W: Write>(out: &mut W, s: u8, run: &[u32], looped: &[u32]) -> io::Result<()> {
+    say(out, b"stream")?;
+    number(out, wide(s))?;
+    say(out, b" run")?;
+    every(out, 1, run)?;
+    say(out, b" loop")?;
+    every(out, 1, looped)?;
+    holds(out, b" same", is_same(run, looped))
 }
 
 // R of an accepted job.
@@ -66,15 +82,24 @@ fn room_of(j: Job) -> usize {
 }
 
 // Where the run was not refused: are the places past the first R as they were, and do single ticks from cleared places give its values and places?
-fn ticked(j: Job, input: &[u32], a: Counted, run: &[u32], places: &[u32]) {
+fn ticked<W: Write>(
+    out: &mut W,
+    j: Job,
+    input: &[u32],
+    a: Counted,
+    run: &[u32],
+    places: &[u32],
+) -> io::Result<()> {
     if a.number == 0 {
         let room = room_of(j);
-        holds(b"beyond kept", is_guarded(rest(places, room)));
+        holds(out, b"beyond kept", is_guarded(rest(places, room)))?;
         holds(
+            out,
             b"ticked same",
             is_ticked(j, input, a.count, run, front(places, room)),
-        );
+        )?;
     }
+    Ok(())
 }
 
 // Do they?

@@ -2,42 +2,51 @@
 use crate::print::{number, say, wide};
 use array::lookup::Lookup;
 use job::record::Job;
+use std::io::{self, Write};
 
 // A line for each tick.
-pub fn timetable(title: &[u8], j: Job, ticks: u64, cells: u64) {
-    say(title);
+pub fn timetable<W: Write>(
+    out: &mut W,
+    title: &[u8],
+    j: Job,
+    ticks: u64,
+    cells: u64,
+) -> io::Result<()> {
+    say(out, title)?;
     for t in 0..ticks {
-        tick_line(j, t, cells);
+        tick_line(out, j, t, cells)?;
     }
+    Ok(())
 }
 
 // The line of one tick.
-fn tick_line(j: Job, t: u64, cells: u64) {
-    say(b"tick");
-    number(t);
-    say(b":");
-    cells_of(j, t, cells);
-    say(b"\n");
+fn tick_line<W: Write>(out: &mut W, j: Job, t: u64, cells: u64) -> io::Result<()> {
+    say(out, b"tick")?;
+    number(out, t)?;
+    say(out, b":")?;
+    cells_of(out, j, t, cells)?;
+    say(out, b"\n")
 }
 
 // The points of a tick, cell by cell.
-fn cells_of(j: Job, t: u64, cells: u64) {
+fn cells_of<W: Write>(out: &mut W, j: Job, t: u64, cells: u64) -> io::Result<()> {
     for x in 0..cells {
-        worked(j, t, x);
+        worked(out, j, t, x)?;
     }
+    Ok(())
 }
 
 // A blank and the point that is worked, or - for none.
-fn worked(j: Job, t: u64, x: u64) {
-    say(b" ");
+fn worked<W: Write>(out: &mut W, j: Job, t: u64, x: u64) -> io::Result<()> {
+    say(out, b" ")?;
     let w = array::lookup::point_at(j, t, x);
     match w {
-        Lookup::At(p) => crate::print::point(p, j.n),
-        Lookup::Nowhere => say(b"-"),
+        Lookup::At(p) => crate::print::point(out, p, j.n),
+        Lookup::Nowhere => say(out, b"-"),
         Lookup::Refused(v) => {
             let a = verdict::numbers::in_numbers(v);
-            say(b"refused");
-            number(wide(a.number));
+            say(out, b"refused")?;
+            number(out, wide(a.number))
         }
     }
 }

@@ -86,19 +86,29 @@ overflow_add-y0 : tie.Need-overflow_add-y0
 overflow_add-y0 c = fit (from0 c.before.before)
 
 overflow_sub-y0 : tie.Need-overflow_sub-y0
-overflow_sub-y0 c = fit (to0 c.before.before.before.before)
+overflow_sub-y0 c =
+    let after_columns_n = c.before.before.before.before in
+    fit (to0 after_columns_n)
 
 nonzero_rem-y1 : tie.Need-nonzero_rem-y1
-nonzero_rem-y1 c = (small c.before.before.before.before).0
+nonzero_rem-y1 c =
+    let after_columns_n = c.before.before.before.before in
+    (small after_columns_n).0
 
 overflow_cast-y1 : tie.Need-overflow_cast-y1
-overflow_cast-y1 c = fit (column c.before.before.before.before)
+overflow_cast-y1 c =
+    let after_columns_n = c.before.before.before.before in
+    fit (column after_columns_n)
 
 overflow_add-y1 : tie.Need-overflow_add-y1
-overflow_add-y1 c = fit (from1 c.before.before.before.before.before.before)
+overflow_add-y1 c =
+    let after_columns_n = c.before.before.before.before.before.before in
+    fit (from1 after_columns_n)
 
 overflow_sub-y1 : tie.Need-overflow_sub-y1
-overflow_sub-y1 c = fit (to1 c.before.before.before.before.before.before.before.before)
+overflow_sub-y1 c =
+    let after_columns_n = c.before.before.before.before.before.before.before.before in
+    fit (to1 after_columns_n)
 
 within-requires : tie.Need-within-requires
 within-requires c κs = search rules
@@ -113,22 +123,27 @@ of_within f g h t = rw (as_held tt f, read g, as_held tt h) at t
 -- whether the cell is in the rectangle
 told : (c : tie.After-within-2) → Tells (In (rectangle_of c.args.r) (cell c.before.before.before.before.before.before.before.before.before.before.before.before.before.before)) (c.within.result && c.within-2.result)
 told c =
+    let after_columns_n = c.before.before.before.before.before.before.before.before.before.before.before.before.before.before in
     let r = c.args.r in
     let f = c.requires.0 in
-    told_in _ _ (side r.low0 r.high0) (side r.low1 r.high1 ∷ []) (y0 c.before.before.before.before.before.before.before.before.before.before.before.before.before.before) (y1 c.before.before.before.before.before.before.before.before.before.before.before.before.before.before ∷ [])
-    (of_within f.rows.0 (to0 c.before.before.before.before.before.before.before.before.before.before.before.before.before.before) f.rows.1 c.within.ensures)
-    (told_last (side r.low1 r.high1) (y1 c.before.before.before.before.before.before.before.before.before.before.before.before.before.before) (of_within f.columns.0 (to1 c.before.before.before.before.before.before.before.before.before.before.before.before.before.before) f.columns.1 c.within-2.ensures))
+    told_in _ _ (side r.low0 r.high0) (side r.low1 r.high1 ∷ []) (y0 after_columns_n) (y1 after_columns_n ∷ [])
+    (of_within f.rows.0 (to0 after_columns_n) f.rows.1 c.within.ensures)
+    (told_last (side r.low1 r.high1) (y1 after_columns_n) (of_within f.columns.0 (to1 after_columns_n) f.columns.1 c.within-2.ensures))
 
 number_of-requires : tie.Need-number_of-requires
 number_of-requires c κs =
-    (c.requires.0, subst (In _) (sym (two (read (to0 c.before.before.before.before.before.before.before.before.before.before.before.before.before.before.before)) (read (to1 c.before.before.before.before.before.before.before.before.before.before.before.before.before.before.before)))) ((told c.before).holds c.if-within.true))
+    let after_columns_n = c.before.before.before.before.before.before.before.before.before.before.before.before.before.before.before in
+    (c.requires.0, subst (In _) (sym (two (read (to0 after_columns_n)) (read (to1 after_columns_n)))) ((told c.before).holds c.if-within.true))
 
 returns-then-within : tie.Need-returns-then-within
 returns-then-within c =
-    ap some (c.number_of.ensures ∙ ap (place_of _) (two (read (to0 c.before.before.before.before.before.before.before.before.before.before.before.before.before.before.before.before)) (read (to1 c.before.before.before.before.before.before.before.before.before.before.before.before.before.before.before.before)))) ∙ found c.before.before.before.before.before.before.before.before.before.before.before.before.before.before.before.before true (subst (Tells _) c.if-within.true (told c.before.before))
+    let after_columns_n = c.before.before.before.before.before.before.before.before.before.before.before.before.before.before.before.before in
+    ap some (c.number_of.ensures ∙ ap (place_of _) (two (read (to0 after_columns_n)) (read (to1 after_columns_n)))) ∙ found after_columns_n true (subst (Tells _) c.if-within.true (told c.before.before))
 
 returns-else-within : tie.Need-returns-else-within
-returns-else-within c = found c.before.before.before.before.before.before.before.before.before.before.before.before.before.before.before false (subst (Tells _) c.if-within.false (told c.before))
+returns-else-within c =
+    let after_columns_n = c.before.before.before.before.before.before.before.before.before.before.before.before.before.before.before in
+    found after_columns_n false (subst (Tells _) c.if-within.false (told c.before))
 
 pub behind_spec : {M : Type 1} → statement M
 behind_spec = tie.close (tie.spec columns-n-requires nonzero_div-y0 overflow_cast-y0 overflow_add-y0 overflow_sub-y0 nonzero_rem-y1 overflow_cast-y1 overflow_add-y1 overflow_sub-y1 within-requires within-requires-2 number_of-requires returns-then-within returns-else-within)

@@ -52,12 +52,15 @@ overflow_mul-result : tie.Need-overflow_mul-result
 overflow_mul-result c = omega (arith, whole c, low c)
 
 steps_above-requires : tie.Need-steps_above-requires
-steps_above-requires c κs = (held_size tt c.requires.0.columns.0, held_size tt (sizes c.before.before.before.before).1)
+steps_above-requires c κs =
+    let start = c.before.before.before.before in
+    (held_size tt c.requires.0.columns.0, held_size tt (sizes start).1)
 
 -- so it is the number that the code comes to
 number : (c : tie.After-steps_above) → c.steps_above-row.result * c.columns.result + c.steps_above.result ≡ place_of (rectangle_of c.args.r) (cell c.before.before)
 number c =
-    let column = c.steps_above.ensures ∙ ap₂ steps (as_held tt c.requires.0.columns.0) (as_held tt (sizes c.before.before.before.before.before).1) in
+    let start = c.before.before.before.before.before in
+    let column = c.steps_above.ensures ∙ ap₂ steps (as_held tt c.requires.0.columns.0) (as_held tt (sizes start).1) in
     ap (λ (i : ℕ). c.steps_above-row.result * c.columns.result + i) column ∙ whole c.before.before
 
 overflow_add-result : tie.Need-overflow_add-result

@@ -26,7 +26,9 @@ returns-then-extent-gt-ROOM_LIMIT : tie.Need-returns-then-extent-gt-ROOM_LIMIT
 returns-then-extent-gt-ROOM_LIMIT c = record { first = inl (right c.before.before, inr ((λ h. omega (arith, c.if-extent-gt-ROOM_LIMIT.true)), refl)); besides = refl }
 
 returns-then-places-extent : tie.Need-returns-then-places-extent
-returns-then-places-extent c = record { first = inl (right c.before.before.before.before, inl (omega (arith, c.if-extent-gt-ROOM_LIMIT.false), inr ((λ h. omega (arith, c.if-places-extent.true)), refl))); besides = refl }
+returns-then-places-extent c =
+    let else_not_input_table = c.before.before.before.before in
+    record { first = inl (right else_not_input_table, inl (omega (arith, c.if-extent-gt-ROOM_LIMIT.false), inr ((λ h. omega (arith, c.if-places-extent.true)), refl))); besides = refl }
 
 is_late-requires : tie.Need-is_late-requires
 is_late-requires c κs = search rules

@@ -29,14 +29,16 @@ put c =
 
 number_of-requires : tie.Need-number_of-requires
 number_of-requires c κs =
+    let after_time_and_place_v = c.before.before.before in
     let f = c.requires.0 in
     let i = in_rectangle c.args.f.job f.runnable.acceptable (entries c.args.p) c.requires.1 in
-    (flat f, subst (In _) (sym (put c.before.before.before)) (subst (λ (B : Box). In B (S c.args.f.job (entries c.args.p))) (sym f.rectangle) i))
+    (flat f, subst (In _) (sym (put after_time_and_place_v)) (subst (λ (B : Box). In B (S c.args.f.job (entries c.args.p))) (sym f.rectangle) i))
 
 returns : tie.Need-returns
 unfolding cell_of
 returns c =
-    λ k e. c.number_of.ensures ∙ ap₂ place_of c.requires.0.rectangle (put c.before.before.before.before ∙ ap (S c.args.f.job) e)
+    let after_time_and_place_v = c.before.before.before.before in
+    λ k e. c.number_of.ensures ∙ ap₂ place_of c.requires.0.rectangle (put after_time_and_place_v ∙ ap (S c.args.f.job) e)
 
 pub cell_at_spec : {M : Type 1} → statement M
 cell_at_spec = tie.close (tie.spec time_and_place-v-requires number_of-requires returns)

@@ -47,10 +47,13 @@ count-requires : tie.Need-count-requires
 count-requires c κs = walkable c.requires.acceptable
 
 bands_of-requires : tie.Need-bands_of-requires
-bands_of-requires c κs = (c.requires, are c.before.before.before.before.before)
+bands_of-requires c κs =
+    let after_reach_of_clock = c.before.before.before.before.before in
+    (c.requires, are after_reach_of_clock)
 
 returns : tie.Need-returns
 returns c =
+    let after_reach_of_clock = c.before.before.before.before.before.before.before in
     let j = c.args.j in
     let a = c.requires.acceptable in
     let rows = c.reach_of-rows.ensures in
@@ -63,7 +66,7 @@ returns c =
         runnable = c.requires;
         points = c.count.ensures;
         start = held_as c.reach_of-clock.ensures.low s2.0 tt;
-        cells = are c.before.before.before.before.before.before.before;
+        cells = are after_reach_of_clock;
         rectangle = two (ap₂ side (held_as rows.low s0.0 tt) (held_as rows.high s0.1 tt)) (ap₂ side (held_as columns.low s1.0 tt) (held_as columns.high s1.1 tt));
         bands = c.bands_of.ensures;
       },

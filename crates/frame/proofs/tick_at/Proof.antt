@@ -29,12 +29,15 @@ small s =
     ((small_ends j a h refl (time_sized j a)).0, product_sized j a h refl (time_sized j a) (entries s.args.p) s.requires.1)
 
 steps_above-requires : tie.Need-steps_above-requires
-steps_above-requires c κs = (fits_limit c.requires.0.start (small c.before.before.before).0, fits_limit c.dot.ensures (small c.before.before.before).1)
+steps_above-requires c κs =
+    let start_2 = c.before.before.before in
+    (fits_limit c.requires.0.start (small start_2).0, fits_limit c.dot.ensures (small start_2).1)
 
 returns : tie.Need-returns
 unfolding tick_of
 returns c =
-    λ k e. c.steps_above.ensures ∙ ap₂ steps (held_as c.requires.0.start (small c.before.before.before.before).0 tt) (held_as c.dot.ensures (small c.before.before.before.before).1 tt ∙ ap (H c.args.f.job) e)
+    let start_2 = c.before.before.before.before in
+    λ k e. c.steps_above.ensures ∙ ap₂ steps (held_as c.requires.0.start (small start_2).0 tt) (held_as c.dot.ensures (small start_2).1 tt ∙ ap (H c.args.f.job) e)
 
 pub tick_at_spec : {M : Type 1} → statement M
 tick_at_spec = tie.close (tie.spec dot-requires steps_above-requires returns)

@@ -40,30 +40,38 @@ limited c = c.before.before.before.before
 
 total_of-total-requires : tie.Need-total_of-total-requires
 total_of-total-requires c κs =
-    let s = (accept c.before.before.before).shaped in
+    let else_number_ne0 = c.before.before.before in
+    let s = (accept else_number_ne0).shaped in
     (s.dimensions.1, s.places.1, s.streams.1)
 
 returns-then-buf-total : tie.Need-returns-then-buf-total
 returns-then-buf-total c =
-    let a = accept c.before.before.before.before.before in
+    let else_number_ne0 = c.before.before.before.before.before in
+    let a = accept else_number_ne0 in
     let e = c.total_of-total.ensures in
     record { first = then_first (limits c.args.j) (roomy c.args.j (length c.args.buf.now)) 17 (passes a) (inr ((λ h. omega arith), refl)); claim = (e, refl) }
 
 -- the file is as long as the total, and there is room for it
 room : (c : tie.Else-buf-total) → Fits c.args.buf.now 0 (file_of c.args.j)
-room c = let e = c.total_of-total.ensures in record { room = omega (arith, c.if-buf-total.false, e, file_length _ (accept c.before.before.before.before.before).shaped) }
+room c =
+    let else_number_ne0 = c.before.before.before.before.before in
+    let e = c.total_of-total.ensures in record { room = omega (arith, c.if-buf-total.false, e, file_length _ (accept else_number_ne0).shaped) }
 
 put_job-requires : tie.Need-put_job-requires
-put_job-requires c κs = (accept c.before.before.before.before.before.before, room c.before)
+put_job-requires c κs =
+    let else_number_ne0 = c.before.before.before.before.before.before in
+    (accept else_number_ne0, room c.before)
 
 shape_of-buf : tie.Need-shape_of-buf
 shape_of-buf c = search rules
 
 returns : tie.Need-returns
 returns c =
-    let a = accept c.before.before.before.before.before.before.before.before.before in
+    let else_buf_total = c.before.before.before.before in
+    let else_number_ne0 = c.before.before.before.before.before.before.before.before.before in
+    let a = accept else_number_ne0 in
     let e = c.put_job.ensures.next ∙ zero-add _ ∙ file_length _ a.shaped in
-    record { first = then_first (limits c.args.j) (roomy c.args.j (length c.args.buf.now)) 0 (passes a) (inl (omega (arith, room c.before.before.before.before, file_length _ a.shaped), refl)); claim = (e, c.put_job.ensures.all) }
+    record { first = then_first (limits c.args.j) (roomy c.args.j (length c.args.buf.now)) 0 (passes a) (inl (omega (arith, room else_buf_total, file_length _ a.shaped), refl)); claim = (e, c.put_job.ensures.all) }
 
 pub write_spec : {M : Type 1} → statement M
 write_spec = tie.close (tie.spec number-number-requires returns-then-number-ne0 overflow_cast-j overflow_cast-j-2 overflow_cast-j-3 total_of-total-requires returns-then-buf-total put_job-requires shape_of-buf returns)

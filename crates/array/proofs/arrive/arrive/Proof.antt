@@ -71,29 +71,36 @@ slice_bounds-shift-end : tie.Need-slice_bounds-shift-end invariant-loop decrease
 slice_bounds-shift-end c = omega (arith, in_it c.before.before)
 
 nonzero_rem-t : tie.Need-nonzero_rem-t invariant-loop decreases-loop
-nonzero_rem-t c = some_delay c.requires.0 c.loop-s-test.true (banded c.before.before.before.before.before)
+nonzero_rem-t c =
+    let after_band_at_b = c.before.before.before.before.before in
+    some_delay c.requires.0 c.loop-s-test.true (banded after_band_at_b)
 
 shift-requires : tie.Need-shift-requires invariant-loop decreases-loop
 shift-requires c κs =
+    let after_band_at_b = c.before.before.before.before.before in
+    let in_loop_s = c.before.before.before.before.before.before.before in
     let F = c.requires.0 in
     let h = c.loop-s-test.true in
-    (lent F h (banded c.before.before.before.before.before) (band_of F h (banded c.before.before.before.before.before) (roomy c.before.before.before.before.before.before.before)) c.args.t, F.cells ∙ sym (ap count_of F.rectangle))
+    (lent F h (banded after_band_at_b) (band_of F h (banded after_band_at_b) (roomy in_loop_s)) c.args.t, F.cells ∙ sym (ap count_of F.rectangle))
 
 -- where the band came back
 abbrev returned : tie.After-slice_known-in-loop-s-1 invariant-loop decreases-loop → tie.After-band_at-b invariant-loop decreases-loop
 returned c = c.before.before.before.before.before.before.before.before
 
 overflow_add-s : tie.Need-overflow_add-s invariant-loop decreases-loop
-overflow_add-s c = omega (arith, small c.before.before.before.before.before.before.before.before.before.before)
+overflow_add-s c =
+    let in_loop_s = c.before.before.before.before.before.before.before.before.before.before in
+    omega (arith, small in_loop_s)
 
 loop-s-smaller : tie.Need-loop-s-smaller invariant-loop decreases-loop
 loop-s-smaller c = omega (arith, c.loop-s-test.true)
 
 loop-s-preserved : tie.Need-loop-s-preserved invariant-loop decreases-loop
 loop-s-preserved c =
+    let after_band_at_b = c.before.before.before.before.before.before.before.before in
     let q = c.requires in
     let h = c.loop-s-test.true in
-    (omega (arith, h), arrive_step q.0 h (banded c.before.before.before.before.before.before.before.before) q.1 c.loop-s.invariant.1 (shifted q.0 h (banded c.before.before.before.before.before.before.before.before) c.args.t c.shift.ensures))
+    (omega (arith, h), arrive_step q.0 h (banded after_band_at_b) q.1 c.loop-s.invariant.1 (shifted q.0 h (banded after_band_at_b) c.args.t c.shift.ensures))
 
 shape_of-places : tie.Need-shape_of-places invariant-loop decreases-loop
 shape_of-places c = c.loop-s.invariant.1.size

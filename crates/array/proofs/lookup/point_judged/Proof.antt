@@ -52,18 +52,23 @@ found c = scanned c.before (ap found_of c.in-At.is)
 
 point-requires : tie.Need-point-requires
 point-requires c κs =
+    let in_Accepted = c.before.before.before.before in
     let a = c.args in
-    let w = walkable (accepted_limits (says c.before.before.before.before)) in
+    let w = walkable (accepted_limits (says in_Accepted)) in
     (w.0, w.1, last_below (works a.j a.t a.x) _ _ (found c.before))
 
 enum_told-1 : tie.Need-enum_told-1
 enum_told-1 c = search rules
 
 returns-in-At : tie.Need-returns-in-At
-returns-in-At c = (_, says c.before.before.before.before.before, (_, found c.before.before, c.point.ensures))
+returns-in-At c =
+    let in_Accepted = c.before.before.before.before.before in
+    (_, says in_Accepted, (_, found c.before.before, c.point.ensures))
 
 returns-in-Nowhere : tie.Need-returns-in-Nowhere
-returns-in-Nowhere c = (_, says c.before.before.before, scanned c.before (ap found_of c.in-Nowhere.is))
+returns-in-Nowhere c =
+    let in_Accepted = c.before.before.before in
+    (_, says in_Accepted, scanned c.before (ap found_of c.in-Nowhere.is))
 
 pub point_judged_spec : {M : Type 1} → statement M
 point_judged_spec = tie.close (tie.spec enum_known-v returns-in_default frame_of-requires place_at-found-requires enum_known-found point-requires enum_told-1 returns-in-At returns-in-Nowhere)

@@ -64,23 +64,27 @@ turn c = c.before.before.before
 
 next-p-requires : tie.Need-next-p-requires invariant-loop decreases-loop
 next-p-requires c κs =
+    let in_loop_k = c.before.before.before.before.before in
     let w = walkable c.requires.0.good in
-    (w.0, w.1, stands_in _ (k c.before.before.before.before.before) (below c.before.before.before.before.before) (stands c.before.before.before.before.before))
+    (w.0, w.1, stands_in _ (k in_loop_k) (below in_loop_k) (stands in_loop_k))
 
 overflow_add-k : tie.Need-overflow_add-k invariant-loop decreases-loop
-overflow_add-k c = omega (arith, below c.before.before.before.before.before.before, few_points c.requires.0.good)
+overflow_add-k c =
+    let in_loop_k = c.before.before.before.before.before.before in
+    omega (arith, below in_loop_k, few_points c.requires.0.good)
 
 loop-k-smaller : tie.Need-loop-k-smaller invariant-loop decreases-loop
 loop-k-smaller c = omega (arith, c.loop-k-test.true)
 
 loop-k-preserved : tie.Need-loop-k-preserved invariant-loop decreases-loop
 loop-k-preserved c =
+    let in_loop_k = c.before.before.before.before.before.before in
     let a = c.args in
     let l = c.loop-k in
     let got = c.incoming_all-got in
     let put = c.put_column in (
-      looped_step a.j c.requires.0.good a.input.now l.values got.result put.new.values l.k l.invariant.0 (below c.before.before.before.before.before.before) got.ensures put.ensures,
-      c.next-p.ensures l.k (stands c.before.before.before.before.before.before),
+      looped_step a.j c.requires.0.good a.input.now l.values got.result put.new.values l.k l.invariant.0 (below in_loop_k) got.ensures put.ensures,
+      c.next-p.ensures l.k (stands in_loop_k),
     )
 
 shape_of-values : tie.Need-shape_of-values invariant-loop decreases-loop

@@ -62,19 +62,29 @@ incoming_at-v-requires c κs =
     (q.0.good, c.loop-s-test.true, rowed a.input.now c.loop-s-test.true l.invariant.0 q.0.size, rowed a.values.now c.loop-s-test.true l.invariant.0 q.1.size, omega (arith, q.2, q.0.count), q.3)
 
 overflow_cast-i : tie.Need-overflow_cast-i invariant-loop decreases-loop
-overflow_cast-i c = omega (arith, small c.before.before.before)
+overflow_cast-i c =
+    let in_loop_s = c.before.before.before in
+    omega (arith, small in_loop_s)
 
 offset_bounds-got-i : tie.Need-offset_bounds-got-i invariant-loop decreases-loop
-offset_bounds-got-i c = omega (arith, small c.before.before.before)
+offset_bounds-got-i c =
+    let in_loop_s = c.before.before.before in
+    omega (arith, small in_loop_s)
 
 bounds-got-i : tie.Need-bounds-got-i invariant-loop decreases-loop
-bounds-got-i c = omega (arith, small c.before.before.before)
+bounds-got-i c =
+    let in_loop_s = c.before.before.before in
+    omega (arith, small in_loop_s)
 
 overflow_add-from : tie.Need-overflow_add-from invariant-loop decreases-loop
-overflow_add-from c = omega (arith, low c.before.before.before, c.requires.0.size, c.requires.0.count, c.well_formed)
+overflow_add-from c =
+    let in_loop_s = c.before.before.before in
+    omega (arith, low in_loop_s, c.requires.0.size, c.requires.0.count, c.well_formed)
 
 overflow_add-s : tie.Need-overflow_add-s invariant-loop decreases-loop
-overflow_add-s c = omega (arith, small c.before.before.before)
+overflow_add-s c =
+    let in_loop_s = c.before.before.before in
+    omega (arith, small in_loop_s)
 
 loop-s-smaller : tie.Need-loop-s-smaller invariant-loop decreases-loop
 loop-s-smaller c = omega (arith, c.loop-s-test.true)
@@ -85,10 +95,11 @@ next s e d = omega arith
 
 loop-s-preserved : tie.Need-loop-s-preserved invariant-loop decreases-loop
 loop-s-preserved c =
+    let in_loop_s = c.before.before.before in
     let a = c.args in
     let l = c.loop-s in (
       next l.s l.invariant.0 c.requires.0.count,
-      firsts_step c.incoming_at-v.result l.invariant.1 (small c.before.before.before) (c.incoming_at-v.ensures ∙ incoming_there a.j l.s a.k a.input.now a.values.now l.invariant.0),
+      firsts_step c.incoming_at-v.result l.invariant.1 (small in_loop_s) (c.incoming_at-v.ensures ∙ incoming_there a.j l.s a.k a.input.now a.values.now l.invariant.0),
     )
 
 returns : tie.Need-returns invariant-loop decreases-loop

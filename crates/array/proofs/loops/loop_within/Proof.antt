@@ -28,8 +28,9 @@ count-points-requires c κs = walkable c.requires
 
 fill-requires : tie.Need-fill-requires
 fill-requires c κs =
+    let else_not_input_size = c.before.before.before in
     let good = c.requires in
-    let l = right c.before.before.before in
+    let l = right else_not_input_size in
     (record { good = good; size = l.0; count = c.count-points.ensures }, record { good = good; size = l.1; count = c.count-points.ensures })
 
 shape_of-values : tie.Need-shape_of-values
@@ -37,8 +38,9 @@ shape_of-values c = search rules
 
 returns : tie.Need-returns
 returns c =
+    let else_not_input_size = c.before.before.before.before.before.before in
     let a = c.args in
-    (tables_taken a.j a.input.now a.values.now c.requires (right c.before.before.before.before.before.before), c.count-points.ensures, c.fill.ensures)
+    (tables_taken a.j a.input.now a.values.now c.requires (right else_not_input_size), c.count-points.ensures, c.fill.ensures)
 
 pub loop_within_spec : {M : Type 1} → statement M
 loop_within_spec = tie.close (tie.spec size_of-size-requires returns-then-not-input-size count-points-requires fill-requires shape_of-values returns)

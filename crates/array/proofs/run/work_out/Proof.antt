@@ -81,7 +81,9 @@ abbrev ready : tie.After-fill_timetable → tie.In-Ticks
 ready c = c.before.before.before
 
 clear-requires : tie.Need-clear-requires
-clear-requires c κs = enough c.before.before.before.before.before.before.before
+clear-requires c κs =
+    let in_Ticks = c.before.before.before.before.before.before.before in
+    enough in_Ticks
 
 -- the places are cleared
 abbrev filled : tie.After-clear → tie.After-fill_timetable
@@ -89,11 +91,13 @@ filled c = c.before.before.before.before.before
 
 all_ticks-requires : tie.Need-all_ticks-requires
 all_ticks-requires c κs =
+    let in_Ticks = c.before.before.before.before.before.before.before.before.before.before.before.before in
+    let in_Accepted = c.before.before.before.before.before.before.before.before.before.before.before.before.before.before in
     let a = c.args in
-    let s = says c.before.before.before.before.before.before.before.before.before.before.before.before.before.before in
-    let p = (taken c.before.before.before.before.before.before.before.before.before.before.before.before).first in
+    let s = says in_Accepted in
+    let p = (taken in_Ticks).first in
     let f = c.frame_of-f.ensures in
-    (input_tabled s a.work p f.0 f.1 refl, values_tabled s a.work p f.0 f.1 refl, places_roomy s a.work p f.0 f.1 (ap length c.clear.ensures ∙ clear_size a.places.now (extent c.before.before.before.before.before.before.before.before.before.before.before.before.before.before).room (enough c.before.before.before.before.before.before.before.before.before.before.before.before)), c.fill_timetable.ensures.0)
+    (input_tabled s a.work p f.0 f.1 refl, values_tabled s a.work p f.0 f.1 refl, places_roomy s a.work p f.0 f.1 (ap length c.clear.ensures ∙ clear_size a.places.now (extent in_Accepted).room (enough in_Ticks)), c.fill_timetable.ensures.0)
 
 enum_known-work : tie.Need-enum_known-work
 enum_known-work c = search rules
@@ -104,9 +108,11 @@ asked c = c.before.before.before
 
 one_tick-requires : tie.Need-one_tick-requires
 one_tick-requires c κs =
+    let in_Ticks = c.before.before.before.before.before.before.before.before in
+    let in_Accepted = c.before.before.before.before.before.before.before.before.before.before in
     let a = c.args in
-    let s = says c.before.before.before.before.before.before.before.before.before.before in
-    let p = (taken c.before.before.before.before.before.before.before.before).first in
+    let s = says in_Accepted in
+    let p = (taken in_Ticks).first in
     let f = c.frame_of-f.ensures in
     (input_tabled s a.work p f.0 f.1 refl, values_tabled s a.work p f.0 f.1 refl, places_roomy s a.work p f.0 f.1 refl, c.fill_timetable.ensures.0)
 
@@ -118,8 +124,10 @@ shape_of-places-in-Run c = search rules
 
 returns-in-Run : tie.Need-returns-in-Run
 returns-in-Run c =
+    let in_Ticks = c.before.before.before.before.before.before.before.before.before.before.before.before.before.before.before.before.before in
+    let in_Accepted = c.before.before.before.before.before.before.before.before.before.before.before.before.before.before.before.before.before.before.before in
     let a = c.args in
-    run_done a.work a.input.now a.values.now a.places.now _ _ (says c.before.before.before.before.before.before.before.before.before.before.before.before.before.before.before.before.before.before.before) (taken c.before.before.before.before.before.before.before.before.before.before.before.before.before.before.before.before.before) c.frame_of-f.ensures.0 c.in-Run.is c.clear.ensures c.all_ticks.ensures
+    run_done a.work a.input.now a.values.now a.places.now _ _ (says in_Accepted) (taken in_Ticks) c.frame_of-f.ensures.0 c.in-Run.is c.clear.ensures c.all_ticks.ensures
 
 shape_of-values-in-Tick : tie.Need-shape_of-values-in-Tick
 shape_of-values-in-Tick c = search rules
@@ -129,8 +137,10 @@ shape_of-places-in-Tick c = search rules
 
 returns-in-Tick : tie.Need-returns-in-Tick
 returns-in-Tick c =
+    let in_Ticks = c.before.before.before.before.before.before.before.before.before.before.before.before.before in
+    let in_Accepted = c.before.before.before.before.before.before.before.before.before.before.before.before.before.before.before in
     let a = c.args in
-    tick_done a.work a.input.now a.values.now a.places.now _ _ (says c.before.before.before.before.before.before.before.before.before.before.before.before.before.before.before) (taken c.before.before.before.before.before.before.before.before.before.before.before.before.before) c.frame_of-f.ensures.0 c.in-Tick.is c.one_tick.ensures
+    tick_done a.work a.input.now a.values.now a.places.now _ _ (says in_Accepted) (taken in_Ticks) c.frame_of-f.ensures.0 c.in-Tick.is c.one_tick.ensures
 
 pub work_out_spec : {M : Type 1} → statement M
 work_out_spec = tie.close (tie.spec enum_known-v returns-in_default lacking-reply-requires enum_known-reply returns-in_default-reply frame_of-f-requires slice_bounds-fill_timetable-end fill_timetable-requires slice_bounds-times-end enum_told-1 clear-requires all_ticks-requires enum_known-work one_tick-requires shape_of-values-in-Run shape_of-places-in-Run returns-in-Run shape_of-values-in-Tick shape_of-places-in-Tick returns-in-Tick)

@@ -61,7 +61,9 @@ module _ (c : tie.After-previous_at-found invariant-loop decreases-loop) where
   found e = sym (c.previous_at-found.ensures c.args.spot.place c.requires.2.point) ∙ e
 
 band_at-b-requires : tie.Need-band_at-b-requires invariant-loop decreases-loop
-band_at-b-requires c κs = small c.before.before.before.before.before
+band_at-b-requires c κs =
+    let in_loop_s = c.before.before.before.before.before in
+    small in_loop_s
 
 -- the stream's band, where the point before is in the box
 module _ (c : tie.After-band_at-b invariant-loop decreases-loop) where
@@ -80,19 +82,24 @@ standing_at-requires c κs =
     (some_delay q.0.framed h (banded c), place_in q.0.framed h (banded c) q.1 a.t a.spot.cell (omega (arith, q.2.cell, in_cells)))
 
 offset_bounds-got-i : tie.Need-offset_bounds-got-i invariant-loop decreases-loop
-offset_bounds-got-i c = omega (arith, small c.before.before.before.before.before.before.before)
+offset_bounds-got-i c =
+    let in_loop_s = c.before.before.before.before.before.before.before in
+    omega (arith, small in_loop_s)
 
 bounds-got-i : tie.Need-bounds-got-i invariant-loop decreases-loop
-bounds-got-i c = small c.before.before.before.before.before.before.before
+bounds-got-i c =
+    let in_loop_s = c.before.before.before.before.before.before.before in
+    small in_loop_s
 
 enum_told-1 : tie.Need-enum_told-1 invariant-loop decreases-loop
 enum_told-1 c = search rules
 
 place_in_table-from-requires : tie.Need-place_in_table-from-requires invariant-loop decreases-loop
 place_in_table-from-requires c κs =
+    let in_loop_s = c.before.before.before.before in
     let q = c.requires in
     let n = few_points q.0.framed.runnable.acceptable in
-    (omega (arith, small c.before.before.before.before), omega (arith, q.0.framed.points), omega (arith, q.2.low))
+    (omega (arith, small in_loop_s), omega (arith, q.0.framed.points), omega (arith, q.2.low))
 
 -- where the input is read
 module _ (c : tie.After-place_in_table-from invariant-loop decreases-loop) where
@@ -107,18 +114,25 @@ offset_bounds-input-from c = omega (arith, c.place_in_table-from.ensures.0)
 
 bounds-input-from : tie.Need-bounds-input-from invariant-loop decreases-loop
 bounds-input-from c =
+    let in_loop_s = c.before.before.before.before.before.before in
     let a = c.args in
     let q = c.requires in
-    omega (arith, there c.before, entry_in a.f.job (s c.before.before.before.before.before.before) a.spot.place c.loop-s-test.true q.2.low, q.0.size)
+    omega (arith, there c.before, entry_in a.f.job (s in_loop_s) a.spot.place c.loop-s-test.true q.2.low, q.0.size)
 
 offset_bounds-got-i-in-Nowhere : tie.Need-offset_bounds-got-i-in-Nowhere invariant-loop decreases-loop
-offset_bounds-got-i-in-Nowhere c = omega (arith, small c.before.before.before.before.before.before)
+offset_bounds-got-i-in-Nowhere c =
+    let in_loop_s = c.before.before.before.before.before.before in
+    omega (arith, small in_loop_s)
 
 bounds-got-i-in-Nowhere : tie.Need-bounds-got-i-in-Nowhere invariant-loop decreases-loop
-bounds-got-i-in-Nowhere c = small c.before.before.before.before.before.before
+bounds-got-i-in-Nowhere c =
+    let in_loop_s = c.before.before.before.before.before.before in
+    small in_loop_s
 
 overflow_add-s : tie.Need-overflow_add-s invariant-loop decreases-loop
-overflow_add-s c = omega (arith, small c.before.before.before.before)
+overflow_add-s c =
+    let in_loop_s = c.before.before.before.before in
+    omega (arith, small in_loop_s)
 
 loop-s-smaller : tie.Need-loop-s-smaller invariant-loop decreases-loop
 loop-s-smaller c = omega (arith, c.loop-s-test.true)
@@ -129,18 +143,19 @@ one_more d ls e ev = rw e (firsts_step _ d ls ev)
 
 loop-s-preserved : tie.Need-loop-s-preserved invariant-loop decreases-loop
 loop-s-preserved c =
+    let in_loop_s = c.before.before.before.before in
     let a = c.args in
     let l = c.loop-s in
     elim c.match-found.branch [
       | in-At y ↦
           let read : tie.After-band_at-b invariant-loop decreases-loop = record { before = record { before = record { before = c.before; in-At = y.in-At }; band_at-arg-1 = y.band_at-arg-1 }; band_at-b = y.band_at-b } in
           let there = ap (λ (i : ℕ). get_or a.places.now i 0) (place_is c.requires.0.framed c.loop-s-test.true (banded read) a.t a.spot.cell) in
-          one_more l.invariant (small c.before.before.before.before) y.got-is
-          (y.standing_at.ensures ∙ there ∙ taken_some a.f.job a.input.now a.t a.places.now (s c.before.before.before.before) a.spot.cell a.spot.place _ (found c.before (ap found_of y.in-At.is)))
+          one_more l.invariant (small in_loop_s) y.got-is
+          (y.standing_at.ensures ∙ there ∙ taken_some a.f.job a.input.now a.t a.places.now (s in_loop_s) a.spot.cell a.spot.place _ (found c.before (ap found_of y.in-At.is)))
       | in-Nowhere n ↦
           let read : tie.After-place_in_table-from invariant-loop decreases-loop = record { before = record { before = c.before; in-Nowhere = n.in-Nowhere }; place_in_table-from = n.place_in_table-from } in
-          one_more l.invariant (small c.before.before.before.before) n.got-is
-          (ap (λ (i : ℕ). get_or a.input.now i 0) (there read) ∙ taken_none a.f.job a.input.now a.t a.places.now (s c.before.before.before.before) a.spot.cell a.spot.place (found c.before (ap found_of n.in-Nowhere.is)))
+          one_more l.invariant (small in_loop_s) n.got-is
+          (ap (λ (i : ℕ). get_or a.input.now i 0) (there read) ∙ taken_none a.f.job a.input.now a.t a.places.now (s in_loop_s) a.spot.cell a.spot.place (found c.before (ap found_of n.in-Nowhere.is)))
     ]
 
 returns : tie.Need-returns invariant-loop decreases-loop

@@ -73,9 +73,10 @@ overflow_add-end c = omega (arith, in_it c.before.before, few c.before.before)
 
 place_in_table-i-requires : tie.Need-place_in_table-i-requires invariant-loop decreases-loop
 place_in_table-i-requires c κs =
+    let in_loop_s = c.before.before.before.before in
     let q = c.requires in
     let n = few_points q.0.framed.runnable.acceptable in
-    (omega (arith, small c.before.before.before.before), omega (arith, q.0.framed.points), omega (arith, q.2.low))
+    (omega (arith, small in_loop_s), omega (arith, q.0.framed.points), omega (arith, q.2.low))
 
 -- where the value stands
 module _ (c : tie.After-place_in_table-i invariant-loop decreases-loop) where
@@ -90,12 +91,15 @@ offset_bounds-values-i c = omega (arith, c.place_in_table-i.ensures.0)
 
 bounds-values-i : tie.Need-bounds-values-i invariant-loop decreases-loop
 bounds-values-i c =
+    let in_loop_s = c.before.before.before.before.before.before in
     let a = c.args in
     let q = c.requires in
-    omega (arith, there c.before, entry_in a.f.job (s c.before.before.before.before.before.before) a.spot.place c.loop-s-test.true q.2.low, q.0.size)
+    omega (arith, there c.before, entry_in a.f.job (s in_loop_s) a.spot.place c.loop-s-test.true q.2.low, q.0.size)
 
 offset_bounds-places-from : tie.Need-offset_bounds-places-from invariant-loop decreases-loop
-offset_bounds-places-from c = omega (arith, in_it c.before.before.before.before, few c.before.before.before.before)
+offset_bounds-places-from c =
+    let after_band_at_b = c.before.before.before.before in
+    omega (arith, in_it after_band_at_b, few after_band_at_b)
 
 slice_bounds-put_value-count : tie.Need-slice_bounds-put_value-count invariant-loop decreases-loop
 slice_bounds-put_value-count c = omega arith
@@ -104,10 +108,14 @@ slice_bounds-put_value-start : tie.Need-slice_bounds-put_value-start invariant-l
 slice_bounds-put_value-start c = omega arith
 
 slice_bounds-put_value-end : tie.Need-slice_bounds-put_value-end invariant-loop decreases-loop
-slice_bounds-put_value-end c = omega (arith, in_it c.before.before.before.before)
+slice_bounds-put_value-end c =
+    let after_band_at_b = c.before.before.before.before in
+    omega (arith, in_it after_band_at_b)
 
 nonzero_rem-t : tie.Need-nonzero_rem-t invariant-loop decreases-loop
-nonzero_rem-t c = some_delay c.requires.0.framed c.loop-s-test.true (banded c.before.before.before.before.before.before)
+nonzero_rem-t c =
+    let after_band_at_b = c.before.before.before.before.before.before in
+    some_delay c.requires.0.framed c.loop-s-test.true (banded after_band_at_b)
 
 -- where it goes in the band
 module _ (c : tie.After-band_at-b invariant-loop decreases-loop) where
@@ -119,29 +127,36 @@ module _ (c : tie.After-band_at-b invariant-loop decreases-loop) where
 
 put_value-requires : tie.Need-put_value-requires invariant-loop decreases-loop
 put_value-requires c κs =
+    let after_band_at_b = c.before.before.before.before.before.before in
+    let in_loop_s = c.before.before.before.before.before.before.before.before in
     let q = c.requires in
     let h = c.loop-s-test.true in
-    omega (arith, goes c.before.before.before.before.before.before, digits_lt (in_cells c.before.before.before.before.before.before.before.before) (inside c.before.before.before.before.before.before), size_is q.0.framed h (banded c.before.before.before.before.before.before), part_size c.loop-s.places c.band_at-b.result.from (c.args.f.cells * c.band_at-b.result.w) (in_it c.before.before.before.before.before.before))
+    omega (arith, goes after_band_at_b, digits_lt (in_cells in_loop_s) (inside after_band_at_b), size_is q.0.framed h (banded after_band_at_b), part_size c.loop-s.places c.band_at-b.result.from (c.args.f.cells * c.band_at-b.result.w) (in_it after_band_at_b))
 
 -- where the band came back
 abbrev returned : tie.After-slice_known-in-loop-s-1 invariant-loop decreases-loop → tie.After-place_in_table-i invariant-loop decreases-loop
 returned c = c.before.before.before.before.before.before
 
 overflow_add-s : tie.Need-overflow_add-s invariant-loop decreases-loop
-overflow_add-s c = omega (arith, small c.before.before.before.before.before.before.before.before.before.before.before)
+overflow_add-s c =
+    let in_loop_s = c.before.before.before.before.before.before.before.before.before.before.before in
+    omega (arith, small in_loop_s)
 
 loop-s-smaller : tie.Need-loop-s-smaller invariant-loop decreases-loop
 loop-s-smaller c = omega (arith, c.loop-s-test.true)
 
 loop-s-preserved : tie.Need-loop-s-preserved invariant-loop decreases-loop
 loop-s-preserved c =
+    let after_place_in_table_i = c.before.before.before.before.before.before in
+    let after_band_at_b = c.before.before.before.before.before.before.before.before.before in
+    let in_loop_s = c.before.before.before.before.before.before.before.before.before.before.before in
     let a = c.args in
     let q = c.requires in
     let h = c.loop-s-test.true in
     let put = c.put_value.ensures in
-    let value = ap (λ (i : ℕ). get_or a.values.now i 0) (there c.before.before.before.before.before.before) in
-    let goes_there = ap (λ (i : ℕ). set (part c.band_at-b.result.from (a.f.cells * c.band_at-b.result.w) c.loop-s.places) i (get_or a.values.now c.place_in_table-i.result 0)) (goes c.before.before.before.before.before.before.before.before.before) in
-    (omega (arith, h), put_step q.0.framed h (banded c.before.before.before.before.before.before.before.before.before) (get_or a.values.now c.place_in_table-i.result 0) (in_cells c.before.before.before.before.before.before.before.before.before.before.before) q.1 c.loop-s.invariant.1 (put ∙ goes_there) value)
+    let value = ap (λ (i : ℕ). get_or a.values.now i 0) (there after_place_in_table_i) in
+    let goes_there = ap (λ (i : ℕ). set (part c.band_at-b.result.from (a.f.cells * c.band_at-b.result.w) c.loop-s.places) i (get_or a.values.now c.place_in_table-i.result 0)) (goes after_band_at_b) in
+    (omega (arith, h), put_step q.0.framed h (banded after_band_at_b) (get_or a.values.now c.place_in_table-i.result 0) (in_cells in_loop_s) q.1 c.loop-s.invariant.1 (put ∙ goes_there) value)
 
 shape_of-places : tie.Need-shape_of-places invariant-loop decreases-loop
 shape_of-places c = c.loop-s.invariant.1.size

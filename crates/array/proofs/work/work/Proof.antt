@@ -42,9 +42,10 @@ bounds-timetable-i c = omega (arith, low c.before, c.requires.3.size)
 
 work_point-requires : tie.Need-work_point-requires invariant-loop decreases-loop
 work_point-requires c κs =
+    let in_loop_k = c.before.before.before.before in
     let q = c.requires in
     let done = c.loop-k.invariant.0 in
-    (q.0, record { framed = q.1.framed; size = done.length_values ∙ q.1.size }, roomy_as q.2 done.length_places, low c.before.before.before.before)
+    (q.0, record { framed = q.1.framed; size = done.length_values ∙ q.1.size }, roomy_as q.2 done.length_places, low in_loop_k)
 
 overflow_add-k : tie.Need-overflow_add-k invariant-loop decreases-loop
 overflow_add-k c = omega (arith, few c.before.before)

@@ -45,11 +45,12 @@ shape_of-places c = search rules
 
 returns : tie.Need-returns
 returns c =
+    let after_spot_at_spot = c.before.before.before.before.before.before.before.before.before.before in
     let a = c.args in
     let q = c.requires in
     let j = a.f.job in
     point_worked q.0.framed.runnable.acceptable q.1.size
-    (λ u lu. c.incoming_all-got.ensures u lu ∙ ap₂ (taken j a.input.now a.t a.places.now u) (cell c.before.before.before.before.before.before.before.before.before.before) c.spot_at-spot.ensures.0) c.put_column.ensures (put_as (cell c.before.before.before.before.before.before.before.before.before.before) c.spot_at-spot.ensures.0 c.put_values.ensures)
+    (λ u lu. c.incoming_all-got.ensures u lu ∙ ap₂ (taken j a.input.now a.t a.places.now u) (cell after_spot_at_spot) c.spot_at-spot.ensures.0) c.put_column.ensures (put_as (cell after_spot_at_spot) c.spot_at-spot.ensures.0 c.put_values.ensures)
 
 pub work_point_spec : {M : Type 1} → statement M
 work_point_spec = tie.close (tie.spec spot_at-spot-requires incoming_all-got-requires put_column-requires put_values-requires shape_of-values shape_of-places returns)

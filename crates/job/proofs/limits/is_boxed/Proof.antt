@@ -35,7 +35,8 @@ count-requires c κs = let s = granted _ (both c.before.before) c.before.if-not-
 
 returns : tie.Need-returns
 returns c =
-    let sized2 = c.before.before.before in
+    let after_is_sized = c.before.before.before in
+    let sized2 = after_is_sized in
     let start = sized2.before.before.before.before in
     let s = granted _ (both sized2) c.before.before.if-not-is_sized.false in
     let B = box_of start.args.b in

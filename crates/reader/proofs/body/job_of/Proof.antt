@@ -36,10 +36,14 @@ stream_or-s1-requires : tie.Need-stream_or-s1-requires
 stream_or-s1-requires c κs = streams_room c.before.before
 
 stream_or-s2-requires : tie.Need-stream_or-s2-requires
-stream_or-s2-requires c κs = streams_room c.before.before.before
+stream_or-s2-requires c κs =
+    let after_byte_m = c.before.before.before in
+    streams_room after_byte_m
 
 stream_or-s3-requires : tie.Need-stream_or-s3-requires
-stream_or-s3-requires c κs = streams_room c.before.before.before.before
+stream_or-s3-requires c κs =
+    let after_byte_m = c.before.before.before.before in
+    streams_room after_byte_m
 
 -- moments of the walk: where the counts are read; where the function starts
 abbrev counts : tie.After-stream_or-s3 → tie.After-byte-m
@@ -49,13 +53,19 @@ abbrev start : tie.After-shared_slice_known-2-1 → tie.Start
 start c = c.before.before.before.before.before.before.before.before.before.before.before.before.before
 
 row_or-time-requires : tie.Need-row_or-time-requires
-row_or-time-requires c κs = rows_room c.before.before.before.before.before
+row_or-time-requires c κs =
+    let after_byte_m = c.before.before.before.before.before in
+    rows_room after_byte_m
 
 row_or-row0-requires : tie.Need-row_or-row0-requires
-row_or-row0-requires c κs = rows_room c.before.before.before.before.before.before
+row_or-row0-requires c κs =
+    let after_byte_m = c.before.before.before.before.before.before in
+    rows_room after_byte_m
 
 row_or-row1-requires : tie.Need-row_or-row1-requires
-row_or-row1-requires c κs = rows_room c.before.before.before.before.before.before.before
+row_or-row1-requires c κs =
+    let after_byte_m = c.before.before.before.before.before.before.before in
+    rows_room after_byte_m
 
 bounds-s-2 : tie.Need-bounds-s-2
 bounds-s-2 c = omega (arith, c.requires.long)

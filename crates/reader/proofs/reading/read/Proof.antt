@@ -30,7 +30,8 @@ number-number-requires c κs = search rules
 
 returns-then-number-ne0 : tie.Need-returns-then-number-ne0
 returns-then-number-ne0 c =
-    (record_first c.args.s.now (passed c.before.before.before) _ c.job_of-j.ensures _ c.number-number.ensures, λ e. omega (arith, c.if-number-ne0.true))
+    let else_head_ne0 = c.before.before.before in
+    (record_first c.args.s.now (passed else_head_ne0) _ c.job_of-j.ensures _ c.number-number.ensures, λ e. omega (arith, c.if-number-ne0.true))
 
 returns : tie.Need-returns
 returns c = (accepted _ (omega (arith, c.if-number-ne0.false)) c.number-number.ensures, c.job_of-j.ensures.file)

@@ -38,9 +38,10 @@ place-requires c κs =
 
 returns-then-contains : tie.Need-returns-then-contains
 returns-then-contains c k e =
+    let after_minus_q = c.before.before.before in
     let a = c.before.before.before.before.args in
     let y = entries c.before.before.before.minus-q.result in
-    ap some c.place.ensures ∙ back_told (box_of a.b) (entries a.d) k y true (asked c.before.before.before k e) (subst (Tells (In (box_of a.b) y)) c.before.if-contains.true c.before.before.contains.ensures)
+    ap some c.place.ensures ∙ back_told (box_of a.b) (entries a.d) k y true (asked after_minus_q k e) (subst (Tells (In (box_of a.b) y)) c.before.if-contains.true c.before.before.contains.ensures)
 
 returns-else-contains : tie.Need-returns-else-contains
 returns-else-contains c k e =

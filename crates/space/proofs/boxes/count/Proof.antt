@@ -21,7 +21,9 @@ overflow_mul-result-2 : tie.Need-overflow_mul-result-2
 overflow_mul-result-2 c = let n = small c.before.before in fits_under (mul-le-mul n.1 (mul-le-mul n.2 n.3)) tt
 
 overflow_mul-result-3 : tie.Need-overflow_mul-result-3
-overflow_mul-result-3 c = let n = small c.before.before.before in fits_under (mul-le-mul n.0 (mul-le-mul n.1 (mul-le-mul n.2 n.3))) tt
+overflow_mul-result-3 c =
+    let after_lengths_n = c.before.before.before in
+    let n = small after_lengths_n in fits_under (mul-le-mul n.0 (mul-le-mul n.1 (mul-le-mul n.2 n.3))) tt
 
 returns : tie.Need-returns
 returns c = lengths_count c.before.before.before.lengths-n.result c.before.before.before.before.args.b c.before.before.before.lengths-n.ensures

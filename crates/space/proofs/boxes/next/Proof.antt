@@ -86,11 +86,14 @@ abbrev start3 : tie.After-struct_told-6-1 → tie.Start
 start3 c = start2 (else2 c).before
 
 overflow_add-result : tie.Need-overflow_add-result
-overflow_add-result c = fit (more (sized (start c.before.before.before)).each.1.1.1.0)
+overflow_add-result c =
+    let after_struct_told = c.before.before.before in
+    fit (more (sized (start after_struct_told)).each.1.1.1.0)
 
 returns-then-p-u : tie.Need-returns-then-p-u
 returns-then-p-u c =
-    let then1 = c.before.before.before in
+    let then_p_u = c.before.before.before in
+    let then1 = then_p_u in
     let s = start then1.before in
     let z = (sized s).each in
     let h = below z.1.1.1.0 s.requires.1.each.1.1.1.0 then1.if-p-u.true in
@@ -98,11 +101,14 @@ returns-then-p-u c =
     (next_behind _ _ _ _ _ s.requires.2 (next_behind _ _ _ _ _ (in1 s) (next_behind _ _ _ _ _ (in2 s) (next_first _ [] _ [] (in3 s) last_nothing h))))
 
 overflow_add-result-then-p-u-2 : tie.Need-overflow_add-result-then-p-u-2
-overflow_add-result-then-p-u-2 c = fit (more (sized (start2 c.before.before.before)).each.1.1.0)
+overflow_add-result-then-p-u-2 c =
+    let after_struct_told = c.before.before.before in
+    fit (more (sized (start2 after_struct_told)).each.1.1.0)
 
 returns-then-p-u-2 : tie.Need-returns-then-p-u-2
 returns-then-p-u-2 c =
-    let then2 = c.before.before.before.before in
+    let then_p_u = c.before.before.before.before in
+    let then2 = then_p_u in
     let else1 = else1 then2.before in
     let s = start else1.before in
     let z = (sized s).each in
@@ -114,11 +120,14 @@ returns-then-p-u-2 c =
     (next_behind _ _ _ _ _ s.requires.2 (next_behind _ _ _ _ _ (in1 s) (next_first _ _ _ _ (in2 s) (last3 s h3) h2)))
 
 overflow_add-result-then-p-u-3 : tie.Need-overflow_add-result-then-p-u-3
-overflow_add-result-then-p-u-3 c = fit (more (sized (start3 c.before.before.before)).each.1.0)
+overflow_add-result-then-p-u-3 c =
+    let after_struct_told = c.before.before.before in
+    fit (more (sized (start3 after_struct_told)).each.1.0)
 
 returns-then-p-u-3 : tie.Need-returns-then-p-u-3
 returns-then-p-u-3 c =
-    let then3 = c.before.before.before.before in
+    let then_p_u = c.before.before.before.before in
+    let then3 = then_p_u in
     let else2 = else2 then3.before in
     let else1 = else1 else2.before in
     let s = start else1.before in
@@ -132,11 +141,14 @@ returns-then-p-u-3 c =
     (next_behind _ _ _ _ _ s.requires.2 (next_first _ _ _ _ (in1 s) (last2 s h2 h3) h1))
 
 overflow_add-result-2 : tie.Need-overflow_add-result-2
-overflow_add-result-2 c = fit (more (sized (start3 c.before.before.before)).each.0)
+overflow_add-result-2 c =
+    let after_struct_told = c.before.before.before in
+    fit (more (sized (start3 after_struct_told)).each.0)
 
 returns : tie.Need-returns
 returns c k i t =
-    let else3 = c.before.before.before in
+    let else_p_u = c.before.before.before in
+    let else3 = else_p_u in
     let else2 = else2 else3.before in
     let else1 = else1 else2.before in
     let s = start else1.before in

@@ -58,20 +58,29 @@ overflow_cast-result-2 : tie.Need-overflow_cast-result-2
 overflow_cast-result-2 c = fit (arg (few1 c.before.before) tt)
 
 nonzero_div-result-3 : tie.Need-nonzero_div-result-3
-nonzero_div-result-3 c = (are c.before.before.before).some3
+nonzero_div-result-3 c =
+    let start = c.before.before.before in
+    (are start).some3
 
 overflow_cast-result-3 : tie.Need-overflow_cast-result-3
-overflow_cast-result-3 c = fit (arg (few2 c.before.before.before) tt)
+overflow_cast-result-3 c =
+    let start = c.before.before.before in
+    fit (arg (few2 start) tt)
 
 nonzero_rem-result : tie.Need-nonzero_rem-result
-nonzero_rem-result c = (are c.before.before.before.before).some3
+nonzero_rem-result c =
+    let start = c.before.before.before.before in
+    (are start).some3
 
 overflow_cast-result-4 : tie.Need-overflow_cast-result-4
-overflow_cast-result-4 c = fit (arg (few3 c.before.before.before.before) tt)
+overflow_cast-result-4 c =
+    let start = c.before.before.before.before in
+    fit (arg (few3 start) tt)
 
 returns : tie.Need-returns
 returns c =
-    let s = c.before.before.before.before in
+    let start = c.before.before.before.before in
+    let s = start in
     let are_digits = four (as_held tt (few0 s)) (as_held tt (few1 s)) (as_held tt (few2 s)) (as_held tt (few3 s)) in (
       subst (Sized side_limit) (sym are_digits) (record { each = (few0 s, (few1 s, (few2 s, (few3 s, tt)))) }),
       λ b e. subst (λ (l : List ℤ). plus_of (entries b.low) l ≡ point_of (box_of b) s.args.k) (sym are_digits) (digits_point s.args.n b e s.args.k),

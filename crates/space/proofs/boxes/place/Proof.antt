@@ -32,12 +32,15 @@ far = difference + difference
 
 -- the lengths and the steps are small
 small_lengths : (c : tie.After-steps_each-o) → (c.before.before.lengths-n.result.n0 ≤ side_limit) × (c.before.before.lengths-n.result.n1 ≤ side_limit) × (c.before.before.lengths-n.result.n2 ≤ side_limit) × (c.before.before.lengths-n.result.n3 ≤ side_limit)
-small_lengths c = let s = c.before.before.before in lengths_small c.before.before.lengths-n.result s.args.b c.before.before.lengths-n.ensures s.requires.0 s.requires.1
+small_lengths c =
+    let start = c.before.before.before in
+    let s = start in lengths_small c.before.before.lengths-n.result s.args.b c.before.before.lengths-n.ensures s.requires.0 s.requires.1
 
 small_steps : (c : tie.After-steps_each-o) → (c.steps_each-o.result.n0 ≤ far) × (c.steps_each-o.result.n1 ≤ far) × (c.steps_each-o.result.n2 ≤ far) × (c.steps_each-o.result.n3 ≤ far)
 unfolding zip_with
 small_steps c =
-    let s = c.before.before.before in
+    let start = c.before.before.before in
+    let s = start in
     let o = unfour c.steps_each-o.ensures in
     let l = s.requires.0.each in
     let p = (sized s).each in (
@@ -73,10 +76,14 @@ overflow_mul-result : tie.Need-overflow_mul-result
 overflow_mul-result c = search (fits1, small_steps c.before.before, small_lengths c.before.before)
 
 overflow_add-result : tie.Need-overflow_add-result
-overflow_add-result c = search (fits2, small_steps c.before.before.before, small_lengths c.before.before.before)
+overflow_add-result c =
+    let after_steps_each_o = c.before.before.before in
+    search (fits2, small_steps after_steps_each_o, small_lengths after_steps_each_o)
 
 overflow_mul-result-2 : tie.Need-overflow_mul-result-2
-overflow_mul-result-2 c = search (fits3, small_steps c.before.before.before.before, small_lengths c.before.before.before.before)
+overflow_mul-result-2 c =
+    let after_steps_each_o = c.before.before.before.before in
+    search (fits3, small_steps after_steps_each_o, small_lengths after_steps_each_o)
 
 -- where the steps are known
 abbrev after_steps_each : tie.After-struct_known-5-1 → tie.After-steps_each-o

@@ -27,15 +27,20 @@ steps_above-requires-2 : tie.Need-steps_above-requires-2
 steps_above-requires-2 c κs = let p = (start c).requires in ask p.0.each.1.0 p.1.each.1.0
 
 steps_above-requires-3 : tie.Need-steps_above-requires-3
-steps_above-requires-3 c κs = let p = (start c.before.before.before).requires in ask p.0.each.1.1.0 p.1.each.1.1.0
+steps_above-requires-3 c κs =
+    let after_struct_told = c.before.before.before in
+    let p = (start after_struct_told).requires in ask p.0.each.1.1.0 p.1.each.1.1.0
 
 steps_above-requires-4 : tie.Need-steps_above-requires-4
-steps_above-requires-4 c κs = let p = (start c.before.before.before.before.before.before).requires in ask p.0.each.1.1.1.0 p.1.each.1.1.1.0
+steps_above-requires-4 c κs =
+    let after_struct_told = c.before.before.before.before.before.before in
+    let p = (start after_struct_told).requires in ask p.0.each.1.1.1.0 p.1.each.1.1.1.0
 
 returns : tie.Need-returns
 unfolding zip_with
 returns c =
-    let after_steps_above3 = c.before.before.before in
+    let after_steps_above_2 = c.before.before.before in
+    let after_steps_above3 = after_steps_above_2 in
     let after_steps_above2 = after_steps_above3.before.before.before in
     let after_steps_above = after_steps_above2.before.before.before in
     let pre = after_steps_above.before.before.before.requires in

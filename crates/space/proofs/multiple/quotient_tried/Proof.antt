@@ -42,7 +42,8 @@ returns-then-is_same c = c.before.is_same.ensures.holds c.if-is_same.true ∙ c.
 
 returns-else-is_same : tie.Need-returns-else-is_same
 returns-else-is_same c z e =
-    let s = c.before.before.before.before in
+    let start = c.before.before.before.before in
+    let s = start in
     let tried = c.before.before.times.ensures ∙ ap (λ (w : ℤ). times_of w (entries s.args.d)) (read (a_over_b s) ∙ only s z e) in
     c.before.is_same.ensures.fails c.if-is_same.false (e ∙ sym tried)
 

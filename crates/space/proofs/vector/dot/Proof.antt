@@ -47,7 +47,9 @@ overflow_mul-result-2 : tie.Need-overflow_mul-result-2
 overflow_mul-result-2 c = search (rules, signed, (start c).requires)
 
 overflow_mul-result-3 : tie.Need-overflow_mul-result-3
-overflow_mul-result-3 c = search (rules, signed, (start c.before.before.before.before).requires)
+overflow_mul-result-3 c =
+    let after_struct_told = c.before.before.before.before in
+    search (rules, signed, (start after_struct_told).requires)
 
 overflow_mul-result-4 : tie.Need-overflow_mul-result-4
 overflow_mul-result-4 c = search (rules, signed, (start2 c).requires)

@@ -66,11 +66,14 @@ offset_bounds-values-i c = omega (arith, c.place_in_table-i.ensures.0)
 
 bounds-values-i : tie.Need-bounds-values-i invariant-loop decreases-loop
 bounds-values-i c =
+    let in_loop_s = c.before.before.before in
     let a = c.args in
-    omega (arith, at c, entry_in a.j (s c.before.before.before) a.k c.loop-s-test.true (low c.before.before.before), c.loop-s.invariant.1.size)
+    omega (arith, at c, entry_in a.j (s in_loop_s) a.k c.loop-s-test.true (low in_loop_s), c.loop-s.invariant.1.size)
 
 overflow_add-s : tie.Need-overflow_add-s invariant-loop decreases-loop
-overflow_add-s c = omega (arith, small c.before.before.before)
+overflow_add-s c =
+    let in_loop_s = c.before.before.before in
+    omega (arith, small in_loop_s)
 
 loop-s-smaller : tie.Need-loop-s-smaller invariant-loop decreases-loop
 loop-s-smaller c = omega arith
@@ -78,14 +81,16 @@ loop-s-smaller c = omega arith
 -- what is written is the new value
 new : (c : tie.After-place_in_table-i invariant-loop decreases-loop) → c.new_value-v.result ≡ work c.args.j (s c.before.before.before) (λ (u : ℕ). get_or c.args.got u 0)
 new c =
+    let in_loop_s = c.before.before.before in
     let got = c.args.got in
-    c.new_value-v.ensures ∙ ap (λ (t : Stream). ruled t.rule (get_or got (s c.before.before.before) 0) (get_or got t.a 0) (get_or got t.b 0)) c.stream_at-t.ensures
+    c.new_value-v.ensures ∙ ap (λ (t : Stream). ruled t.rule (get_or got (s in_loop_s) 0) (get_or got t.a 0) (get_or got t.b 0)) c.stream_at-t.ensures
 
 loop-s-preserved : tie.Need-loop-s-preserved invariant-loop decreases-loop
 loop-s-preserved c =
+    let in_loop_s = c.before.before.before in
     let a = c.args in
     let l = c.loop-s in
-    (omega (arith, c.loop-s-test.true), subst (λ i. Column a.j a.k a.got a.values.now (l.s + 1) (set l.values i c.new_value-v.result)) (sym (at c)) (column_step a.j a.k a.got a.values.now l.values l.s c.new_value-v.result l.invariant.1 c.loop-s-test.true (low c.before.before.before) (new c)))
+    (omega (arith, c.loop-s-test.true), subst (λ i. Column a.j a.k a.got a.values.now (l.s + 1) (set l.values i c.new_value-v.result)) (sym (at c)) (column_step a.j a.k a.got a.values.now l.values l.s c.new_value-v.result l.invariant.1 c.loop-s-test.true (low in_loop_s) (new c)))
 
 shape_of-values : tie.Need-shape_of-values invariant-loop decreases-loop
 shape_of-values c = c.loop-s.invariant.1.size ∙ sym c.requires.0.size

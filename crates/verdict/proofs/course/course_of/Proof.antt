@@ -84,15 +84,19 @@ nonzero_div-result : tie.Need-nonzero_div-result
 nonzero_div-result c = div_need (time c.before.before) (steps c.before.before) (some c.before.before)
 
 nonzero_div-result-2 : tie.Need-nonzero_div-result-2
-nonzero_div-result-2 c = div_need (first c.before.before.before.before) (steps c.before.before.before.before) (some c.before.before.before.before)
+nonzero_div-result-2 c =
+    let after_or_one_n = c.before.before.before.before in
+    div_need (first after_or_one_n) (steps after_or_one_n) (some after_or_one_n)
 
 nonzero_div-result-3 : tie.Need-nonzero_div-result-3
 nonzero_div-result-3 c =
-    div_need (second c.before.before.before.before.before.before) (steps c.before.before.before.before.before.before) (some c.before.before.before.before.before.before)
+    let after_or_one_n = c.before.before.before.before.before.before in
+    div_need (second after_or_one_n) (steps after_or_one_n) (some after_or_one_n)
 
 returns : tie.Need-returns
 returns c =
-    record { unit = four (read (quot (time c.before.before.before.before.before.before) (steps c.before.before.before.before.before.before))) (read (quot (first c.before.before.before.before.before.before) (steps c.before.before.before.before.before.before))) (read (quot (second c.before.before.before.before.before.before) (steps c.before.before.before.before.before.before))) refl; hops = divisor c.before.before.before.before.before.before }
+    let after_or_one_n = c.before.before.before.before.before.before in
+    record { unit = four (read (quot (time after_or_one_n) (steps after_or_one_n))) (read (quot (first after_or_one_n) (steps after_or_one_n))) (read (quot (second after_or_one_n) (steps after_or_one_n))) refl; hops = divisor after_or_one_n }
 
 pub course_of_spec : {M : Type 1} → statement M
 course_of_spec = tie.close (tie.spec stream_at-t-requires time_and_place-v-requires size-requires size-requires-2 gcd-g-requires or_one-n-requires overflow_cast-n nonzero_div-result nonzero_div-result-2 nonzero_div-result-3 returns)

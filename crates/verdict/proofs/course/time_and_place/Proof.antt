@@ -17,14 +17,19 @@ asked : (s : tie.Start) {h : List ℤ} → Sized row_limit h → Sized limit h �
 asked s p = (sized_up (omega arith) p, sized_up (omega arith) s.requires.1)
 
 dot-requires : tie.Need-dot-requires
-dot-requires c κs = asked c.before.before.before (time_sized c.args.j c.requires.0)
+dot-requires c κs =
+    let start = c.before.before.before in
+    asked start (time_sized c.args.j c.requires.0)
 
 dot-requires-2 : tie.Need-dot-requires-2
-dot-requires-2 c κs = asked c.before.before.before.before (row0_sized c.args.j c.requires.0)
+dot-requires-2 c κs =
+    let start = c.before.before.before.before in
+    asked start (row0_sized c.args.j c.requires.0)
 
 dot-requires-3 : tie.Need-dot-requires-3
 dot-requires-3 c κs =
-    asked c.before.before.before.before.before (row1_sized c.args.j c.requires.0)
+    let start = c.before.before.before.before.before in
+    asked start (row1_sized c.args.j c.requires.0)
 
 returns : tie.Need-returns
 returns c =

@@ -30,10 +30,14 @@ reach_of-rows-requires : tie.Need-reach_of-rows-requires
 reach_of-rows-requires c κs = asked c.args.j c.requires.0 (search (small c.before.before))
 
 reach_of-columns-requires : tie.Need-reach_of-columns-requires
-reach_of-columns-requires c κs = asked c.args.j c.requires.0 (search (small c.before.before.before.before))
+reach_of-columns-requires c κs =
+    let start = c.before.before.before.before in
+    asked c.args.j c.requires.0 (search (small start))
 
 reach_of-clock-requires : tie.Need-reach_of-clock-requires
-reach_of-clock-requires c κs = asked c.args.j c.requires.0 (search (small c.before.before.before.before.before.before))
+reach_of-clock-requires c κs =
+    let start = c.before.before.before.before.before.before in
+    asked c.args.j c.requires.0 (search (small start))
 
 -- the second row's reach and the start, seen from where the cells are counted
 abbrev columns : tie.After-struct_known-2-1 → tie.After-reach_of-columns

@@ -67,7 +67,8 @@ enum_known-shared_cell c = search rules
 
 returns-in-At-shared_cell : tie.Need-returns-in-At-shared_cell
 returns-in-At-shared_cell c =
-    says_cell c.requires (ahead c.before.before.before.before) (even c.before.before) (rw c.in-At-shared_cell.is at c.shared_cell-shared_cell.ensures)
+    let in_default = c.before.before.before.before in
+    says_cell c.requires (ahead in_default) (even c.before.before) (rw c.in-At-shared_cell.is at c.shared_cell-shared_cell.ensures)
 
 enum_told-in_default-shared_cell : tie.Need-enum_told-in_default-shared_cell
 enum_told-in_default-shared_cell c = search rules
@@ -80,18 +81,24 @@ enum_known-collision c = search rules
 
 returns-in-At-collision : tie.Need-returns-in-At-collision
 returns-in-At-collision c =
-    says_link c.requires (ahead c.before.before.before.before.before.before) (even c.before.before.before.before) (apart c.before.before) (rw c.in-At-collision.is at c.first_collision-collision.ensures)
+    let in_default_uneven = c.before.before.before.before in
+    let in_default = c.before.before.before.before.before.before in
+    says_link c.requires (ahead in_default) (even in_default_uneven) (apart c.before.before) (rw c.in-At-collision.is at c.first_collision-collision.ensures)
 
 enum_told-in_default-collision : tie.Need-enum_told-in_default-collision
 enum_told-in_default-collision c = search rules
 
 extent_of-requires : tie.Need-extent_of-requires
 extent_of-requires c κs =
-    (c.requires, ahead c.before.before.before.before.before.before)
+    let in_default = c.before.before.before.before.before.before in
+    (c.requires, ahead in_default)
 
 returns : tie.Need-returns
 returns c =
-    says_accepted c.requires (ahead c.before.before.before.before.before.before.before) (even c.before.before.before.before.before) (apart c.before.before.before) (clear c.before) c.extent_of.ensures
+    let in_default_shared_cell = c.before.before.before in
+    let in_default_uneven = c.before.before.before.before.before in
+    let in_default = c.before.before.before.before.before.before.before in
+    says_accepted c.requires (ahead in_default) (even in_default_uneven) (apart in_default_shared_cell) (clear c.before) c.extent_of.ensures
 
 pub judged_spec : {M : Type 1} → statement M
 judged_spec = tie.close (tie.spec late-late-requires enum_known-late returns-in-At enum_told-1 uneven-uneven-requires enum_known-uneven returns-in-At-uneven enum_told-in_default-uneven shared_cell-shared_cell-requires enum_known-shared_cell returns-in-At-shared_cell enum_told-in_default-shared_cell first_collision-collision-requires enum_known-collision returns-in-At-collision enum_told-in_default-collision extent_of-requires returns)

@@ -63,23 +63,26 @@ least_start-p-requires c κs =
 
 plus-q-requires : tie.Need-plus-q-requires
 plus-q-requires c κs =
+    let in_At = c.before.before.before in
     let j = c.args.j in
     let a = c.requires.0 in (
       sized_up (omega arith) (in_box_sized j a c.least_start-p.ensures.0.0),
-      sized_up (omega arith) (apart_sized j.bounds _ (low_sized j a) (high_sized j a) (found c.before.before.before).0.1),
+      sized_up (omega arith) (apart_sized j.bounds _ (low_sized j a) (high_sized j a) (found in_At).0.1),
     )
 
 returns : tie.Need-returns
 returns c =
+    let in_At = c.before.before.before.before.before in
+    let else_c_eq0 = c.before.before.before.before.before.before.before in
     let j = c.args.j in
     let s = c.args.s in
     let l = c.in-At.found in
     let y = entries l.gap in
     let r = entries c.least_start-p.result in
-    let w = found c.before.before.before.before.before in
+    let w = found in_At in
     let at = c.least_start-p.ensures in
-    let first = first_pair (link_by_gap j s (moving c.before.before.before.before.before.before.before)) y r w.0.0 w.0.1 w.0.2 w.0.3 at.0.0 at.0.1 at.1 in
-    let meet = meets_meeting j s r (plus_of r y) l.hops (moving c.before.before.before.before.before.before.before) first.holds.1.pair (subst (λ (z : List _). CollidesBy j s z l.hops) (sym (minus_plus r y refl)) w.1) in
+    let first = first_pair (link_by_gap j s (moving else_c_eq0)) y r w.0.0 w.0.1 w.0.2 w.0.3 at.0.0 at.0.1 at.1 in
+    let meet = meets_meeting j s r (plus_of r y) l.hops (moving else_c_eq0) first.holds.1.pair (subst (λ (z : List _). CollidesBy j s z l.hops) (sym (minus_plus r y refl)) w.1) in
     (refl, subst (λ (q : List _). FirstPair (CollidesSome j s) r q × Collides j s r q (held l.hops)) (sym c.plus-q.ensures) (first, subst (Collides j s r (plus_of r y)) (sym (back (in_range c.struct_told-1.given.1.0.1))) meet))
 
 pub collision_on_spec : {M : Type 1} → statement M

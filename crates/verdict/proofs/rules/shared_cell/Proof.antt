@@ -53,8 +53,9 @@ plus-q-requires c κs =
 
 returns : tie.Need-returns
 returns c =
+    let in_At = c.before.before.before in
     let j = c.args.j in
-    let w = found c.before.before.before in
+    let w = found in_At in
     let at = c.least_start-p.ensures in
     subst (FirstPair (SameCell j) (entries c.least_start-p.result)) (sym c.plus-q.ensures)
     (first_pair (cell_by_gap j) _ _ w.0 w.1 w.2 w.3 at.0.0 at.0.1 at.1)

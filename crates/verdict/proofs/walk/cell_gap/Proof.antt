@@ -61,7 +61,8 @@ is_still-requires c κs = let d = c.differences-b.ensures.0 in (c.requires, gap_
 
 returns-then-is_still : tie.Need-returns-then-is_still invariant-loop decreases-loop
 returns-then-is_still c =
-    gap_found _ _ _ (gaps c.before.before.before.before.before.before.before) c.loop-i.i (below c.before.before) c.loop-i.invariant.0 c.loop-i.y (stands c.before.before) (c.is_still.ensures.holds c.if-is_still.true)
+    let after_differences_b = c.before.before.before.before.before.before.before in
+    gap_found _ _ _ (gaps after_differences_b) c.loop-i.i (below c.before.before) c.loop-i.invariant.0 c.loop-i.y (stands c.before.before) (c.is_still.ensures.holds c.if-is_still.true)
 
 next-y-requires : tie.Need-next-y-requires invariant-loop decreases-loop
 next-y-requires c κs =
@@ -76,11 +77,13 @@ loop-i-smaller c = omega arith
 
 loop-i-preserved : tie.Need-loop-i-preserved invariant-loop decreases-loop
 loop-i-preserved c =
-    (passed_more _ _ _ c.loop-i.invariant.0 (subst (λ y. Still c.args.j y → ⊥) (stands c.before.before.before) (c.is_still.ensures.fails c.if-is_still.false)), c.next-y.ensures c.loop-i.i (stands c.before.before.before))
+    let in_loop_i = c.before.before.before in
+    (passed_more _ _ _ c.loop-i.invariant.0 (subst (λ y. Still c.args.j y → ⊥) (stands in_loop_i) (c.is_still.ensures.fails c.if-is_still.false)), c.next-y.ensures c.loop-i.i (stands in_loop_i))
 
 returns : tie.Need-returns invariant-loop decreases-loop
 returns c =
-    gap_nowhere _ _ _ (gaps c.before.before.before.before.before) c.loop-i.i (let e = c.count-n.ensures in omega arith) c.loop-i.invariant.0
+    let after_differences_b = c.before.before.before.before.before in
+    gap_nowhere _ _ _ (gaps after_differences_b) c.loop-i.i (let e = c.count-n.ensures in omega arith) c.loop-i.invariant.0
 
 pub cell_gap_spec : {M : Type 1} → statement M
 cell_gap_spec = tie.close (tie.spec invariant-loop decreases-loop differences-b-requires count-n-requires first_place-i-requires first_gap-y-requires loop-i-init is_still-requires returns-then-is_still next-y-requires overflow_add-i loop-i-smaller loop-i-preserved returns)

@@ -75,12 +75,14 @@ equation c = rw (back (in_range c.in-Times.known_told-1-own.given.0.1)) (answer 
 
 returns-then-is_collision : tie.Need-returns-then-is_collision
 returns-then-is_collision c =
-    met c.args.j c.args.s (entries c.args.y) (held c.in-Times.f) c.requires.5 c.requires.3.hops (equation c.before.before.before)
+    let in_Times = c.before.before.before in
+    met c.args.j c.args.s (entries c.args.y) (held c.in-Times.f) c.requires.5 c.requires.3.hops (equation in_Times)
     c.is_collision.ensures c.if-is_collision.true
 
 returns-else-is_collision : tie.Need-returns-else-is_collision
 returns-else-is_collision c =
-    not_met c.args.j c.args.s (entries c.args.y) (held c.in-Times.f) c.requires.5 c.requires.3.hops (equation c.before.before.before)
+    let in_Times = c.before.before.before in
+    not_met c.args.j c.args.s (entries c.args.y) (held c.in-Times.f) c.requires.5 c.requires.3.hops (equation in_Times)
     c.is_collision.ensures c.requires.2 c.if-is_collision.false
 
 pub collision_hops_spec : {M : Type 1} → statement M

@@ -75,9 +75,10 @@ enum_known-f c = search rules
 
 returns-in-Hops : tie.Need-returns-in-Hops invariant-loop decreases-loop
 returns-in-Hops c =
+    let after_differences_b = c.before.before.before.before.before.before.before in
     let s = c.args in
     let met = subst (FindsHops s.j s.s _) c.in-Hops.is c.collision_hops.ensures in (
-      gap_found (CollidesBySome s.j s.s) _ _ (gaps c.before.before.before.before.before.before.before) c.loop-i.i (below c.before.before) c.loop-i.invariant.0 c.loop-i.y (stands c.before.before) (c.in-Hops.f, met),
+      gap_found (CollidesBySome s.j s.s) _ _ (gaps after_differences_b) c.loop-i.i (below c.before.before) c.loop-i.invariant.0 c.loop-i.y (stands c.before.before) (c.in-Hops.f, met),
       subst (CollidesBy s.j s.s _) (sym (back (in_range c.in-Hops.known_told-1-own.given.0.1))) met,
     )
 
@@ -97,11 +98,13 @@ loop-i-smaller c = omega arith
 
 loop-i-preserved : tie.Need-loop-i-preserved invariant-loop decreases-loop
 loop-i-preserved c =
-    (passed_more _ _ _ c.loop-i.invariant.0 (subst (λ y. CollidesBySome c.args.j c.args.s y → ⊥) (stands c.before.before.before) (met_apart _ _ _ c.collision_hops.result c.collision_hops.ensures c.in_default.in_default-own.keys2)), c.next-y.ensures c.loop-i.i (stands c.before.before.before))
+    let in_loop_i = c.before.before.before in
+    (passed_more _ _ _ c.loop-i.invariant.0 (subst (λ y. CollidesBySome c.args.j c.args.s y → ⊥) (stands in_loop_i) (met_apart _ _ _ c.collision_hops.result c.collision_hops.ensures c.in_default.in_default-own.keys2)), c.next-y.ensures c.loop-i.i (stands in_loop_i))
 
 returns : tie.Need-returns invariant-loop decreases-loop
 returns c =
-    gap_nowhere _ _ _ (gaps c.before.before.before.before.before) c.loop-i.i (let e = c.count-n.ensures in omega arith) c.loop-i.invariant.0
+    let after_differences_b = c.before.before.before.before.before in
+    gap_nowhere _ _ _ (gaps after_differences_b) c.loop-i.i (let e = c.count-n.ensures in omega arith) c.loop-i.invariant.0
 
 pub link_gap_spec : {M : Type 1} → statement M
 link_gap_spec = tie.close (tie.spec invariant-loop decreases-loop stream_at-t-requires differences-b-requires count-n-requires first_place-i-requires first_gap-y-requires loop-i-init collision_hops-requires enum_known-f returns-in-Hops enum_told-1 next-y-requires overflow_add-i loop-i-smaller loop-i-preserved returns)
