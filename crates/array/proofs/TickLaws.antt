@@ -1,9 +1,9 @@
 -- A tick point by point: once all has arrived, a point that is worked takes in its arrivals, since by the cell rule no other was worked in its cell; when all points are done the tick is.
 use mathlib.Core.Path.{◌≡◌, refl, sym, ap, ◌∙◌}
-use mathlib.Core.Bool.{Bool, true, false, cond}
+use mathlib.Core.Bool.{Bool, false}
 use mathlib.Core.List.{List}
 use mathlib.Core.Option.{Option, none, some}
-use Prim.Native.Nat.{ℕ, suc, ◌+◌, ◌*◌, ◌%◌, ◌<◌}
+use Prim.Native.Nat.{ℕ, ◌+◌, ◌%◌, ◌<◌}
 use native.Mathlib.Nat.{mod-lt}
 use native.Mathlib.Numerals.{add-one}
 use native.Mathlib.Decide.{ℕ_discrete}
@@ -16,7 +16,6 @@ use Rattle.job.specs.declared.record.Job.{Job}
 use Rattle.job.specs.Record.{points}
 use Rattle.tables.specs.Tables.{entry_for, previous}
 use Rattle.tables.proofs.TableLaws.{same_work}
-use Rattle.cell.specs.Cells.{work}
 use Rattle.verdict.specs.Extents.{cells}
 use Rattle.verdict.specs.Mapping.{w}
 use Rattle.frame.specs.Frames.{tick_of, cell_of, in_place}

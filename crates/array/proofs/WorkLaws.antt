@@ -1,6 +1,5 @@
 -- Laws of the work at a point: what it takes in, and its values put into its cell stream by stream.
 use mathlib.Core.Path.{◌≡◌, refl, sym, ap, ◌∙◌}
-use mathlib.Core.Logic.{◌⊎◌, inl, inr}
 use mathlib.Core.List.{List}
 use mathlib.Core.Option.{none, some}
 use Prim.Native.Nat.{ℕ, ◌+◌, ◌*◌, ◌-◌, ◌%◌, ◌<◌, ◌≤◌}
@@ -8,7 +7,7 @@ use native.Mathlib.Nat.{mod-lt}
 use native.Mathlib.Decide.{ℕ_discrete, dec_le}
 use native.Mathlib.Omega.{arith}
 use lib.Arith.{digits_lt}
-use lib.ListN.{length, get_or, set, take, drop, length-set}
+use lib.ListN.{length, get_or, set, drop, length-set}
 use lib.Seq.{drop-drop, get_or-drop, get_or-set_same}
 use borrow.Author.Count.{below_more}
 use Rattle.space.proofs.Rows.{other_spot}

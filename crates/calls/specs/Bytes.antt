@@ -20,7 +20,6 @@ use Rattle.array.specs.declared.loops.LoopReply.{LoopReply}
 use Rattle.array.specs.declared.loops.LoopReply.TheVariants as Loop
 use Rattle.array.specs.Lookups.{Looks}
 use Rattle.array.specs.declared.lookup.Lookup.{Lookup}
-use Rattle.array.specs.declared.lookup.Lookup.TheVariants as Lookup
 use Rattle.line.specs.Lines.{line_of, Writes}
 use Rattle.calls.specs.declared.Measures.{Measures}
 

@@ -1,5 +1,5 @@
 -- Two answers that meet one statement are equal: replies by the same checks, and what an accepted array lacks.
-use mathlib.Core.Path.{◌≡◌, refl, sym, ap, ap₂, subst, ◌∙◌}
+use mathlib.Core.Path.{◌≡◌, refl, sym, ap, subst, ◌∙◌}
 use mathlib.Core.Logic.{inl, inr}
 use mathlib.Core.Bool.{cond}
 use Prim.Native.Nat.{ℕ}
@@ -13,7 +13,7 @@ use Rattle.verdict.specs.declared.judge.Extent.{Extent}
 use Rattle.verdict.specs.declared.judge.Verdict.TheVariants.{Accepted}
 use Rattle.verdict.proofs.Unique.{says_unique}
 use Rattle.verdict.proofs.Accepted.{sizes_same, no_refusal}
-use Rattle.checks.specs.Replies.{number_of, Besides, Lacks, Denied, Granted, Replies}
+use Rattle.checks.specs.Replies.{number_of, Besides, Lacks, Granted, Replies}
 use Rattle.checks.specs.declared.RunReply.{RunReply}
 use Rattle.checks.specs.declared.RunReply.TheVariants.{Ticks, Refused, Tables, Large, Few, Late}
 

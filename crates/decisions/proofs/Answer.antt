@@ -1,7 +1,7 @@
 -- The verdict on a record, worked out from the definitions: each rule decided as it is stated, the differences searched in box order.
 use mathlib.Core.Path.{◌≡◌, refl, sym, ap₂, subst, ◌∙◌}
 use mathlib.Core.List.{List, [], ◌∷◌}
-use Prim.Native.Nat.{ℕ, zero, suc, ◌+◌, ◌*◌, ◌-◌, ◌<◌, ◌≤◌}
+use Prim.Native.Nat.{ℕ, zero, suc, ◌+◌, ◌-◌, ◌<◌, ◌≤◌}
 use native.Mathlib.Omega.{arith}
 use native.Mathlib.Decide.{dec_le}
 use lib.ListN.{get_or}
@@ -27,7 +27,6 @@ use Rattle.verdict.specs.Mapping.{H, S, g, Stationary}
 use Rattle.verdict.specs.Collisions.{IsCollision, senders}
 use Rattle.verdict.specs.Courses.{time_and_place}
 use Rattle.verdict.specs.declared.walk.FoundGap.{FoundGap}
-use Rattle.verdict.specs.declared.walk.FoundGap.TheVariants as FoundGap
 use Rattle.verdict.specs.Rules.{Ahead, Even, SameCell, Collides, Clear, All}
 use Rattle.verdict.specs.Verdicts.{Lowest, FirstPair, Says}
 use Rattle.verdict.specs.Searches.{Still, CollidesBy, CollidesBySome, FindsStream, FindsGap, FindsPair, FindsCollisionOn, FindsCollision}
@@ -36,11 +35,8 @@ use Rattle.verdict.specs.declared.judge.Pair.{Pair}
 use Rattle.verdict.specs.declared.judge.Verdict.{Verdict}
 use Rattle.verdict.specs.declared.judge.Verdict.TheVariants.{Accepted, Limit, Precedence, Hop, Cell, Link}
 use Rattle.verdict.specs.declared.rules.FoundStream.{FoundStream}
-use Rattle.verdict.specs.declared.rules.FoundStream.TheVariants as FoundStream
 use Rattle.verdict.specs.declared.rules.FoundPair.{FoundPair}
-use Rattle.verdict.specs.declared.rules.FoundPair.TheVariants as FoundPair
 use Rattle.verdict.specs.declared.rules.FoundCollision.{FoundCollision}
-use Rattle.verdict.specs.declared.rules.FoundCollision.TheVariants as FoundCollision
 use Rattle.decisions.proofs.Decisions.{Decided, holding, failing, alike, both, contrary, given, below, at_most, divides, at_mostℤ, equalℤ, same, cases}
 use Rattle.decisions.proofs.LimitDecisions.{number}
 use Rattle.verdict.proofs.Gaps.{zeros_of, Spread, Passed, passed_first, passed_more, gap_found, gap_nowhere}

@@ -15,7 +15,7 @@ use Rattle.space.proofs.Parts.{int, sum, difference, product, parts, ring⊖, in
 use Rattle.space.proofs.Ints.{nat_abs_neg, nat_abs-*}
 use Rattle.space.proofs.VectorLaws.{dot_minus, dot_times, minus_plus, times_length, two}
 use Rattle.space.proofs.OrderLaws.{before_total}
-use Rattle.space.proofs.BoxLaws.{in_length, point_in, place_point, point_place, place_injective, steps_back, convex}
+use Rattle.space.proofs.BoxLaws.{in_length, point_in, place_point, point_place, place_injective, convex}
 use Rattle.space.proofs.BackLaws.{back_some, back_here, back_below}
 use Rattle.job.specs.declared.record.Job.{Job}
 use Rattle.job.proofs.Accepting.{stream_sound}

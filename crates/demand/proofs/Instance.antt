@@ -8,7 +8,7 @@ use Rattle.job.specs.declared.record.Job.{Job}
 use Rattle.verdict.specs.Mapping.{hops}
 use Rattle.tables.specs.Tables.{entry_for, previous}
 use Rattle.tables.proofs.TableLaws.{same_work}
-use Rattle.verdict.specs.Extents.{rectangle, cells}
+use Rattle.verdict.specs.Extents.{rectangle}
 use Rattle.space.specs.Boxes.{given}
 use Rattle.demand.proofs.Instances.{machine, nest}
 use Rattle.demand.proofs.Mapped.{Mapped}

@@ -8,12 +8,12 @@ use lib.Signed.{◌≤ℤ◌, quot_z}
 use borrow.Author.Count.{below_more}
 use Rattle.space.specs.Numbers.{limit, up}
 use Rattle.space.specs.Vectors.{Sizes}
-use Rattle.space.proofs.Parts.{magnitude, le_parts}
+use Rattle.space.proofs.Parts.{le_parts}
 use Rattle.job.specs.declared.record.Job.{Job}
 use Rattle.job.specs.Limits.{Acceptable}
 use Rattle.job.specs.Record.{along}
 use Rattle.job.proofs.Accepting.{row0_sized, row1_sized}
-use Rattle.verdict.specs.Mapping.{H, g, or_one, hop, delay, delays, w}
+use Rattle.verdict.specs.Mapping.{H, g, or_one, delays, w}
 use Rattle.verdict.specs.Rules.{Ahead, Even}
 use Rattle.verdict.specs.Extents.{cells, room}
 use Rattle.verdict.proofs.Courses.{stationary_none}

@@ -13,7 +13,6 @@ use Rattle.space.proofs.Machine.{held, back, in_range}
 use Rattle.buffer.specs.Put.{Fits, Put}
 use Rattle.line.specs.Fields.{Field, field, fields_bytes, coordinates}
 use Rattle.print.specs.declared.words.Word.{Word}
-use Rattle.print.specs.declared.words.Word.TheVariants as Word
 use Rattle.buffer.proofs.Putting.{put_as, fits_as}
 use Rattle.line.proofs.Rows.{room_first, room_rest, put_rest}
 

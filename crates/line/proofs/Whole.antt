@@ -16,7 +16,6 @@ use Rattle.print.specs.Words.{word_bytes}
 use Rattle.line.specs.Fields.{Field, field, fields_bytes, coordinates, pair_fields, lead, besides, line_fields}
 use Rattle.line.specs.Lines.{line_of, longest, Writes}
 use Rattle.print.specs.declared.words.Word.{Word}
-use Rattle.print.specs.declared.words.Word.TheVariants as Word
 use Rattle.buffer.proofs.Putting.{same_length}
 use Rattle.print.proofs.Numerals.{decimal_length}
 

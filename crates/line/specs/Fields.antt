@@ -10,7 +10,6 @@ use Rattle.verdict.specs.declared.judge.Verdict.TheVariants.{Accepted, Limit, Pr
 use Rattle.print.specs.Decimal.{decimal}
 use Rattle.print.specs.Words.{word_bytes}
 use Rattle.print.specs.declared.words.Word.{Word}
-use Rattle.print.specs.declared.words.Word.TheVariants as Word
 
 -- a word and the number after it
 pub record Field : Type 0 where

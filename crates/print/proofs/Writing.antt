@@ -1,5 +1,5 @@
 -- A line writer that puts bytes puts them into its buffer, and one put after the other is one put.
-use mathlib.Core.Path.{◌≡◌, refl, ap, subst, sym}
+use mathlib.Core.Path.{◌≡◌, ap}
 use mathlib.Core.List.{List}
 use Prim.Native.Nat.{ℕ}
 use Rattle.buffer.specs.Put.{Put}

@@ -1,10 +1,10 @@
 -- The digits of a place, and what they lead to from the low corner, for a box of four sides.
 use mathlib.Core.Path.{◌≡◌, refl, ap}
 use mathlib.Core.List.{[], ◌∷◌, map}
-use Prim.Native.Nat.{ℕ, ◌+◌, ◌*◌, ◌/◌, ◌%◌, ◌<◌, ◌≤◌}
+use Prim.Native.Nat.{ℕ, ◌*◌, ◌/◌, ◌%◌, ◌<◌, ◌≤◌}
 use native.Mathlib.Omega.{arith}
 use native.Mathlib.Nat.{mod-lt, div-lt_iff_lt-mul}
-use lib.IntN.{ℤ, pos, ◌+ℤ◌}
+use lib.IntN.{pos, ◌+ℤ◌}
 use Rattle.space.specs.Numbers.{difference, side_limit}
 use Rattle.space.specs.Vectors.{entries, plus_of, Sized}
 use Rattle.space.specs.Boxes.{side, box_of, across, count_of, point_of}

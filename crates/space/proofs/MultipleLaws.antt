@@ -3,7 +3,7 @@ use mathlib.Core.Path.{◌≡◌, refl, sym, ap, ◌∙◌}
 use mathlib.Core.Logic.{inl, inr}
 use mathlib.Core.List.{List, [], ◌∷◌}
 use Prim.Native.Nat.{ℕ}
-use lib.IntN.{ℤ, pos, ◌*ℤ◌}
+use lib.IntN.{ℤ, pos}
 use lib.ListN.{get_or}
 use Rattle.space.specs.Vectors.{times_of, NonZero}
 use Rattle.space.proofs.Ints.{*ℤ_cancel}

@@ -16,7 +16,6 @@ use Rattle.space.specs.Numbers.{Tells}
 use Rattle.space.proofs.Telling.{tells_and, tells_eq}
 use Rattle.space.proofs.BackLaws.{back_before}
 use Rattle.job.specs.declared.record.Job.{Job}
-use Rattle.job.specs.Refusals.{done}
 use Rattle.job.specs.Limits.{Acceptable, point_limit}
 use Rattle.job.proofs.Accepting.{stream_sound}
 use Rattle.job.specs.Record.{box, stream, along, points}

@@ -2,7 +2,7 @@
 use mathlib.Core.Path.{◌≡◌, refl, ap, ap₂, subst, ◌∙◌}
 use mathlib.Core.Logic.{◌⊎◌, inl, inr}
 use mathlib.Core.List.{List, [], ◌∷◌}
-use Prim.Native.Nat.{ℕ, zero, suc, ◌<◌, ◌∣◌}
+use Prim.Native.Nat.{ℕ, zero, suc, ◌∣◌}
 use native.Mathlib.Omega.{arith}
 use native.Mathlib.Nat.{eq-zero_of_zero-dvd, one-dvd}
 use lib.ListN.{get_or}

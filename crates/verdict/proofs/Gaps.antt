@@ -20,7 +20,6 @@ use Rattle.space.proofs.BoxLaws.{SidesSized, inside_sized, stands_in, across_siz
 use Rattle.job.specs.declared.record.Job.{Job}
 use Rattle.verdict.specs.Searches.{FindsGap, CollidesBySome, FindsHops}
 use Rattle.verdict.specs.declared.walk.FoundHops.{FoundHops}
-use Rattle.verdict.specs.declared.walk.FoundHops.TheVariants as FoundHops
 use Rattle.verdict.specs.declared.walk.FoundGap.TheVariants as FoundGap
 use Rattle.verdict.specs.contracts.walk.FoundHops.{the_type}
 

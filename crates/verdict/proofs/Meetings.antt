@@ -15,7 +15,6 @@ use Rattle.space.specs.Vectors.{dot_of, entries, times_of, Sized, NonZero}
 use Rattle.space.specs.Divisors.{GcdOf}
 use Rattle.space.specs.Multiples.{TellsMultiple}
 use Rattle.space.specs.declared.multiple.Multiple.{Multiple}
-use Rattle.space.specs.declared.multiple.Multiple.TheVariants as Multiple
 use Rattle.space.specs.contracts.multiple.Multiple.{the_type}
 use Rattle.space.proofs.Machine.{arg, quot}
 use Rattle.space.proofs.VectorLaws.{four, unfour, two, untwo}

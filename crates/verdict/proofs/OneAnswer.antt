@@ -13,9 +13,7 @@ use Rattle.job.specs.declared.record.Job.{Job}
 use Rattle.verdict.specs.Mapping.{S, Stationary, hop}
 use Rattle.verdict.specs.Searches.{CollidesBy, FindsGap, FindsLink}
 use Rattle.verdict.specs.declared.walk.FoundLink.{FoundLink}
-use Rattle.verdict.specs.declared.walk.FoundLink.TheVariants as FoundLink
 use Rattle.verdict.specs.declared.walk.FoundGap.{FoundGap}
-use Rattle.verdict.specs.declared.walk.FoundGap.TheVariants as FoundGap
 use Rattle.verdict.proofs.Courses.{hop_nonzero}
 
 -- points y apart are one number of a moving stream's hops apart

@@ -10,17 +10,11 @@ use Rattle.verdict.specs.Collisions.{IsCollision, senders}
 use Rattle.verdict.specs.Rules.{SameCell, Clear, All}
 use Rattle.verdict.specs.Verdicts.{Lowest, FirstPair, FirstCollision}
 use Rattle.verdict.specs.declared.rules.FoundStream.{FoundStream}
-use Rattle.verdict.specs.declared.rules.FoundStream.TheVariants as FoundStream
 use Rattle.verdict.specs.declared.walk.FoundHops.{FoundHops}
-use Rattle.verdict.specs.declared.walk.FoundHops.TheVariants as FoundHops
 use Rattle.verdict.specs.declared.walk.FoundGap.{FoundGap}
-use Rattle.verdict.specs.declared.walk.FoundGap.TheVariants as FoundGap
 use Rattle.verdict.specs.declared.walk.FoundLink.{FoundLink}
-use Rattle.verdict.specs.declared.walk.FoundLink.TheVariants as FoundLink
 use Rattle.verdict.specs.declared.rules.FoundPair.{FoundPair}
-use Rattle.verdict.specs.declared.rules.FoundPair.TheVariants as FoundPair
 use Rattle.verdict.specs.declared.rules.FoundCollision.{FoundCollision}
-use Rattle.verdict.specs.declared.rules.FoundCollision.TheVariants as FoundCollision
 
 -- the lowest stream that breaks P, or none
 abbrev pub FindsStream : (ℕ → Type 0) → ℕ → FoundStream → Type 0

@@ -10,7 +10,6 @@ use Rattle.layout.specs.Layout.{file_of}
 use Rattle.layout.proofs.Injective.{file_length}
 use Rattle.reader.specs.Reading.{Reads}
 use Rattle.reader.specs.declared.reading.Reading.{Reading}
-use Rattle.reader.specs.declared.reading.Reading.TheVariants as Reading
 use Rattle.reader.proofs.Theorems.{reads_unique}
 use Rattle.writer.specs.declared.Wrote.{Wrote}
 use Rattle.writer.specs.declared.Wrote.TheVariants.{Total, Refused, Short}

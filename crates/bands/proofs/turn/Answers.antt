@@ -1,5 +1,4 @@
 -- By the flag.
-use borrow.Author.Rules.{rules}
 use Rattle.bands.proofs.turn.Goals as goal
 
 pub returns-then-falls : goal.returns-then-falls

@@ -1,11 +1,11 @@
 -- All of the bytes are put: after i turns the first i are, and nothing else is touched.
 use mathlib.Core.Path.{◌≡◌, refl, ap, ◌∙◌}
-use Prim.Native.Nat.{ℕ, ◌≤◌, ◌+◌, ◌-◌}
+use Prim.Native.Nat.{ℕ, ◌+◌}
 use native.Mathlib.Numerals.{add-one}
 use native.Mathlib.Omega.{arith}
 use borrow.Author.Rules.{rules}
 use lib.ListN.{length, length-set}
-use lib.Seq.{paste, paste-zero, paste-suc, take-length}
+use lib.Seq.{paste-zero, paste-suc, take-length}
 use Rattle.buffer.specs.Put.{put_at}
 use Rattle.buffer.proofs.put_bytes.Goals as goal
 

@@ -1,7 +1,6 @@
 -- The line of the reader's refusal, or of the verdict on the job that it read.
 use mathlib.Core.Path.{refl, subst}
 use mathlib.Core.Logic.{inl, inr}
-use borrow.Author.Rules.{rules}
 use Rattle.reader.specs.Reading.{Reads}
 use Rattle.calls.proofs.line_of_bytes.Goals as goal
 

@@ -1,7 +1,6 @@
 -- The counts of the job, and the number and the extent of its verdict.
 use mathlib.Core.Path.{ap₂}
 use Prim.Native.Nat.{ℕ}
-use borrow.Author.Rules.{rules}
 use Rattle.job.proofs.Accepting.{walkable}
 use Rattle.job.specs.declared.record.Job.{Job}
 use Rattle.verdict.specs.declared.numbers.InNumbers.{InNumbers}

@@ -1,7 +1,6 @@
 -- The reader's refusal has no measures; else those of the job that it read.
 use mathlib.Core.Path.{subst}
 use mathlib.Core.Logic.{inl, inr}
-use borrow.Author.Rules.{rules}
 use Rattle.reader.specs.Reading.{Reads}
 use Rattle.calls.proofs.measures_of_bytes.Goals as goal
 

@@ -1,7 +1,6 @@
 -- The reader's refusal, or the point of the job that it read.
 use mathlib.Core.Path.{refl, subst}
 use mathlib.Core.Logic.{inl, inr}
-use borrow.Author.Rules.{rules}
 use Rattle.reader.specs.Reading.{Reads}
 use Rattle.calls.proofs.point_at_bytes.Goals as goal
 

@@ -1,5 +1,4 @@
 -- The room count in the verdict on the bytes.
-use borrow.Author.Rules.{rules}
 use Rattle.calls.proofs.room_of_bytes.Goals as goal
 
 pub returns : goal.returns

@@ -1,5 +1,5 @@
 -- Each rule's value, modulo 2^32.
-use Rattle.std.proofs.Common.{◌∙◌, rules}
+use Rattle.std.proofs.Common.{◌∙◌}
 use Rattle.cell.proofs.Ruling.{ruled_sum, ruled_own, ruled_other}
 use Rattle.cell.proofs.rule_value.Goals as goal
 

@@ -1,7 +1,6 @@
 -- Case by case, as the definition has it.
 use mathlib.Core.Path.{sym, ap, ◌∙◌}
 use Prim.Native.Nat.{ℕ}
-use borrow.Author.Rules.{rules}
 use Rattle.job.specs.declared.numbers.Counted.{Counted}
 use Rattle.verdict.specs.declared.numbers.InNumbers.{InNumbers}
 use Rattle.checks.specs.Replies.{counted_of}

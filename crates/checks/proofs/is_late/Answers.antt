@@ -5,7 +5,6 @@ use mathlib.Core.Bool.{true, false}
 use Prim.Native.Nat.{ℕ}
 use native.Mathlib.Omega.{arith}
 use lib.Dec.{leb}
-use borrow.Author.Rules.{rules}
 use Rattle.space.proofs.Machine.{never}
 use Rattle.space.proofs.Telling.{tells_le}
 use Rattle.job.specs.Refusals.{First}

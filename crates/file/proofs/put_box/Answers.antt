@@ -3,7 +3,6 @@ use mathlib.Core.Path.{sym}
 use Prim.Native.Nat.{◌*◌}
 use native.Mathlib.Omega.{arith}
 use lib.Seq.{length-take-le}
-use borrow.Author.Rules.{rules}
 use Rattle.layout.proofs.Entries.{sized_held}
 use Rattle.buffer.proofs.Putting.{put_as, fits_as}
 use Rattle.file.proofs.Joined.{box_part}

@@ -1,6 +1,5 @@
 -- All 16 bytes of the header are put.
 use mathlib.Core.Path.{sym}
-use borrow.Author.Rules.{rules}
 use Rattle.buffer.proofs.Putting.{put_as, fits_as}
 use Rattle.file.proofs.put_header.Goals as goal
 

@@ -1,14 +1,8 @@
 -- One row after the other: after i turns i of them are put.
-use mathlib.Core.Path.{◌≡◌}
-use Prim.Native.Nat.{◌+◌, ◌-◌, ◌<◌, ◌≤◌}
-use native.Mathlib.Omega.{arith}
-use borrow.Author.Rules.{rules}
-use Rattle.job.specs.Record.{rows_of, zero_vector}
-use Rattle.layout.specs.Layout.{joined, vector_bytes, matrix_bytes}
+use Prim.Native.Nat.{◌+◌, ◌-◌, ◌≤◌}
+use Rattle.job.specs.Record.{rows_of}
+use Rattle.layout.specs.Layout.{joined, vector_bytes}
 use Rattle.buffer.specs.Put.{Put}
-use Rattle.buffer.proofs.Putting.{none}
-use Rattle.file.proofs.Fitting.{row_held}
-use Rattle.file.proofs.Joined.{as_long, next_room, next_put}
 use Rattle.file.proofs.put_matrices.Given as goal
 
 abbrev pub invariant-loop-i : goal.invariant-loop-i

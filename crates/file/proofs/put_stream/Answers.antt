@@ -1,5 +1,4 @@
 -- The vector, and from where it ends the four numbers.
-use borrow.Author.Rules.{rules}
 use Rattle.layout.specs.Layout.{vector_bytes}
 use Rattle.buffer.proofs.Putting.{and_then, first, left}
 use Rattle.file.proofs.put_stream.Goals as goal

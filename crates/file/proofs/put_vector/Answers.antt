@@ -1,7 +1,6 @@
 -- The first n of the four bytes are those of the first n entries.
 use mathlib.Core.Path.{sym}
 use lib.Seq.{length-take-le}
-use borrow.Author.Rules.{rules}
 use Rattle.layout.specs.Layout.{vector_bytes}
 use Rattle.buffer.proofs.Putting.{put_as, fits_as}
 use Rattle.file.proofs.Joined.{vector_part}

@@ -1,5 +1,4 @@
 -- Each byte is that of its entry, as it is read back.
-use borrow.Author.Rules.{rules}
 use mathlib.Core.Path.{◌≡◌, sym, ap, ◌∙◌}
 use lib.IntN.{ℤ}
 use Prim.Native.Nat.{ℕ, ◌%◌}

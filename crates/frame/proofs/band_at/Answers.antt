@@ -1,7 +1,6 @@
 -- One of the four.
 use native.Mathlib.Omega.{arith}
 use mathlib.Core.Path.{◌≡◌}
-use borrow.Author.Rules.{rules}
 use Rattle.frame.proofs.band_at.Goals as goal
 
 pub returns-in_default : goal.returns-in_default

@@ -1,6 +1,5 @@
 -- The stream's course as delay and hop.
 use mathlib.Core.Path.{ap, ◌∙◌}
-use borrow.Author.Rules.{rules}
 use lib.IntN.{nat_abs}
 use Rattle.space.proofs.Machine.{held_as}
 use Rattle.space.proofs.VectorLaws.{two, unfour}

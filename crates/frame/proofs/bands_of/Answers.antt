@@ -1,7 +1,6 @@
 -- One band behind the other.
-use Prim.Native.Nat.{ℕ, zero, suc, ◌<◌, ◌≤◌}
+use Prim.Native.Nat.{zero, suc, ◌<◌, ◌≤◌}
 use native.Mathlib.Omega.{arith}
-use borrow.Author.Rules.{rules}
 use Rattle.job.specs.declared.record.Job.{Job}
 use Rattle.tables.proofs.TableLaws.{few_streams}
 use Rattle.frame.specs.declared.Bands.{Bands}

@@ -1,5 +1,4 @@
 -- Each test tells its part of refusal 4.
-use borrow.Author.Rules.{rules}
 use Rattle.space.proofs.Telling.{tells_as, tells_and, tells_eq}
 use Rattle.header.proofs.is_placed.Goals as goal
 

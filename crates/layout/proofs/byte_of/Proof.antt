@@ -1,6 +1,6 @@
 -- z + 256 where z is negative, z where it is not: from 0 to 255, and the byte of the definition.
 use mathlib.Core.Path.{ap, ◌∙◌}
-use lib.IntN.{ℤ, pos, nat_abs, ◌+ℤ◌}
+use lib.IntN.{pos, nat_abs, ◌+ℤ◌}
 use mir.Syntax.{w8}
 use Rattle.space.proofs.Parts.{sum, magnitude}
 use Rattle.space.proofs.Machine.{Is, held, arg, lit, add, fit, read, back, cast_to, tests}

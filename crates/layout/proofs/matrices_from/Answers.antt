@@ -1,6 +1,5 @@
 -- The sum as the document writes it; the streams have few bytes, so it fits.
 use native.Mathlib.Omega.{arith}
-use borrow.Author.Rules.{rules}
 use Rattle.layout.proofs.Totals.{streams_few}
 use Rattle.layout.proofs.matrices_from.Goals as goal
 

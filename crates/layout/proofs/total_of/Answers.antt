@@ -1,6 +1,5 @@
 -- The sum as the document writes it; it is at most 68, so it fits.
 use native.Mathlib.Omega.{arith}
-use borrow.Author.Rules.{rules}
 use Rattle.layout.proofs.Totals.{total_small}
 use Rattle.layout.proofs.total_of.Goals as goal
 

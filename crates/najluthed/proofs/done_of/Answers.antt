@@ -1,7 +1,6 @@
 -- The number as a number of C's, and the count.
 use mathlib.Core.Path.{ap}
 use Prim.Native.Nat.{ℕ}
-use borrow.Author.Rules.{rules}
 use Rattle.najluthed.proofs.done_of.Goals as goal
 
 pub returns : goal.returns

@@ -1,7 +1,6 @@
 -- The number and the point of the look-up on the bytes.
 use mathlib.Core.Path.{ap, ◌∙◌}
 use Rattle.najluthed.specs.Calls.{point}
-use borrow.Author.Rules.{rules}
 use Rattle.najluthed.proofs.najluthed_point.Goals as goal
 
 pub returns : goal.returns

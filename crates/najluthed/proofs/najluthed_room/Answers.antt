@@ -1,7 +1,6 @@
 -- The number and the count of the room count of the bytes.
 use mathlib.Core.Path.{ap, ◌∙◌}
 use Rattle.najluthed.specs.Calls.{done}
-use borrow.Author.Rules.{rules}
 use Rattle.najluthed.proofs.najluthed_room.Goals as goal
 
 pub returns : goal.returns

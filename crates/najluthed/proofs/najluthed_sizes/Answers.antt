@@ -1,5 +1,4 @@
 -- The measures of the bytes, the numbers as C's.
-use borrow.Author.Rules.{rules}
 use Rattle.najluthed.proofs.najluthed_sizes.Goals as goal
 
 pub returns : goal.returns

@@ -3,7 +3,6 @@ use mathlib.Core.Path.{◌≡◌, ap, ◌∙◌}
 use Rattle.space.proofs.Machine.{in_range, back}
 use Rattle.najluthed.specs.declared.Judged.{Judged}
 use Rattle.najluthed.specs.Calls.{judged}
-use borrow.Author.Rules.{rules}
 use Rattle.najluthed.proofs.najluthed_verdict.Goals as goal
 
 pub returns : goal.returns

@@ -1,6 +1,5 @@
 -- The numbers as C's, the coordinates as they are.
 use Rattle.space.proofs.Machine.{in_range, back}
-use borrow.Author.Rules.{rules}
 use Rattle.najluthed.proofs.point_of.Goals as goal
 
 pub returns : goal.returns

@@ -1,6 +1,5 @@
 -- Case by case, as the definition has it.
 use mathlib.Core.Path.{sym, ap}
-use borrow.Author.Rules.{rules}
 use Rattle.writer.specs.Writing.{counted_of}
 use Rattle.writer.proofs.counted.Goals as goal
 

@@ -1,6 +1,5 @@
 -- The look-up's case has its own number and point, or none.
 use mathlib.Core.Path.{sym, ap, ◌∙◌}
-use borrow.Author.Rules.{rules}
 use Rattle.verdict.specs.declared.numbers.InNumbers.{InNumbers}
 use Rattle.array.specs.Lookups.{unfound, looked_of}
 use Rattle.array.proofs.lookup.in_numbers.Goals as goal

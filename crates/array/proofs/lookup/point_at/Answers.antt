@@ -1,5 +1,4 @@
 -- The point of the job with its verdict.
-use borrow.Author.Rules.{rules}
 use Rattle.array.proofs.lookup.point_at.Goals as goal
 
 pub point_judged-requires : goal.point_judged-requires

@@ -1,6 +1,5 @@
 -- Case by case, as the definition has it.
 use mathlib.Core.Path.{sym, ap}
-use borrow.Author.Rules.{rules}
 use Rattle.array.specs.Loops.{counted_of}
 use Rattle.array.proofs.loops.counted.Goals as goal
 

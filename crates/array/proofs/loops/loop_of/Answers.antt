@@ -1,7 +1,6 @@
 -- The limits' number, or what the loop of a job within them answers.
 use mathlib.Core.Path.{refl}
 use lib.ListN.{length}
-use borrow.Author.Rules.{rules}
 use Rattle.job.specs.Refusals.{done, check}
 use Rattle.job.specs.Limits.{limits}
 use Rattle.job.proofs.Refusing.{accepted, stop_first}

@@ -1,5 +1,5 @@
 -- On the first s streams the values are put. The measure is what is left of the streams.
-use mathlib.Core.Path.{◌≡◌, ap, ap₂, ◌∙◌}
+use mathlib.Core.Path.{◌≡◌, ap, ◌∙◌}
 use Prim.Native.Nat.{ℕ, ◌+◌, ◌*◌, ◌%◌, ◌^◌, ◌-◌, ◌<◌, ◌≤◌}
 use native.Mathlib.Nat.{mod-lt}
 use native.Mathlib.Omega.{arith}
@@ -8,7 +8,6 @@ use lib.ListN.{length, get_or, set}
 use Rattle.job.specs.Record.{points}
 use Rattle.verdict.specs.Extents.{cells}
 use Rattle.verdict.specs.Mapping.{w}
-use Rattle.tables.specs.Tables.{entry_for}
 use Rattle.tables.proofs.TableLaws.{few_streams, few_points, entry_in, place_as}
 use Rattle.frame.specs.Framing.{Banded}
 use Rattle.frame.proofs.FrameLaws.{cell_below}

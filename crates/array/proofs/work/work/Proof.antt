@@ -1,7 +1,6 @@
 -- The first k points are done, whatever the places were from which all has arrived. The measure is what is left of the points.
 use mathlib.Core.Path.{sym, ◌∙◌}
-use mathlib.Core.Logic.{⊎_elim}
-use Prim.Native.Nat.{ℕ, ◌+◌, ◌-◌, ◌<◌, ◌≤◌}
+use Prim.Native.Nat.{ℕ, ◌-◌, ◌<◌, ◌≤◌}
 use native.Mathlib.Omega.{arith}
 use Rattle.tables.proofs.TableLaws.{few_points}
 use Rattle.job.specs.Record.{points as points_of}

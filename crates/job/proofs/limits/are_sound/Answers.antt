@@ -1,5 +1,4 @@
 -- Each stream is asked where its number is below m.
-use borrow.Author.Rules.{rules}
 use Rattle.space.proofs.Telling.{tells_and, tells_where, tells_below}
 use Rattle.job.proofs.Shapes.{last_one}
 use Rattle.job.proofs.limits.are_sound.Goals as goal

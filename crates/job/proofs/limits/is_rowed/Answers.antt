@@ -3,7 +3,6 @@ use Prim.Native.Nat.{ℕ, ◌+◌, ◌<◌}
 use native.Mathlib.Omega.{arith}
 use mathlib.Core.Bool.{Bool, not, ◌||◌}
 use lib.Dec.{leb}
-use borrow.Author.Rules.{rules}
 use Rattle.space.specs.Numbers.{Tells}
 use Rattle.space.proofs.Telling.{tells_as, tells_and, tells_where}
 use Rattle.job.proofs.Shapes.{tells_used, last_one}

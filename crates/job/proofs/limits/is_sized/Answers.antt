@@ -5,7 +5,6 @@ use lib.Dec.{leb}
 use lib.IntN.{ℤ, nat_abs}
 use mir.Syntax.{w64}
 use mir.Val.{SFits}
-use borrow.Author.Rules.{rules}
 use Rattle.space.specs.Numbers.{Size, Tells}
 use Rattle.space.proofs.Machine.{held, in_range, size_read}
 use Rattle.space.proofs.Telling.{tells_as, tells_and, tells_le}

@@ -1,5 +1,4 @@
 -- The gcd is 1 where what `gcd_of_entries` answers, the only one, is 1.
-use borrow.Author.Rules.{rules}
 use Rattle.space.proofs.DivisorLaws.{tells_gcd}
 use Rattle.space.proofs.Telling.{tells_and, tells_le}
 use Rattle.job.proofs.Shapes.{tells_sound}

@@ -1,7 +1,6 @@
 -- The first question that is answered no gives its number, and those before it are answered yes.
 use mathlib.Core.Path.{refl}
 use mathlib.Core.Logic.{inl, inr}
-use borrow.Author.Rules.{rules}
 use Rattle.space.proofs.Telling.{granted, denied}
 use Rattle.job.proofs.limits.number.Goals as goal
 

@@ -1,7 +1,6 @@
 -- Row i by its number: where it is not 0 or 1 it is 2.
 use native.Mathlib.Omega.{arith}
 use mathlib.Core.Path.{◌≡◌}
-use borrow.Author.Rules.{rules}
 use Rattle.job.proofs.record.row_at.Goals as goal
 
 pub returns-in_default : goal.returns-in_default

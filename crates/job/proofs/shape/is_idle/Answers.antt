@@ -1,5 +1,4 @@
 -- No coordinate of d is used, and the four numbers are 0.
-use borrow.Author.Rules.{rules}
 use Rattle.space.proofs.Telling.{tells_and, tells_eq}
 use Rattle.job.proofs.Shapes.{tells_idle}
 use Rattle.job.proofs.shape.is_idle.Goals as goal

@@ -1,5 +1,4 @@
 -- The counts, both bounds, the streams and the rows, as each question tells.
-use borrow.Author.Rules.{rules}
 use Rattle.space.proofs.Telling.{tells_and}
 use Rattle.job.proofs.Shapes.{tells_shaped}
 use Rattle.job.proofs.shape.is_shaped.Goals as goal

@@ -1,5 +1,4 @@
 -- By the flag: a row that is used is asked from n on, another from 0 on.
-use borrow.Author.Rules.{rules}
 use Rattle.space.proofs.Telling.{tells_and, tells_where, tells_unless, tells_flag}
 use Rattle.job.proofs.shape.row_shaped.Goals as goal
 

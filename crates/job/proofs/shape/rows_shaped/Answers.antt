@@ -4,7 +4,6 @@ use mathlib.Core.Path.{◌≡◌}
 use Prim.Native.Nat.{ℕ, ◌+◌, ◌<◌, ◌≤◌}
 use native.Mathlib.Omega.{arith}
 use lib.Dec.{leb}
-use borrow.Author.Rules.{rules}
 use Rattle.space.specs.Numbers.{Tells}
 use Rattle.space.proofs.Machine.{never}
 use Rattle.space.proofs.Telling.{tells_and}

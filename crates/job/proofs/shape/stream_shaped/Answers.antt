@@ -1,5 +1,4 @@
 -- By the flag: a stream that is used is asked from n on, another whether it is idle.
-use borrow.Author.Rules.{rules}
 use Rattle.space.proofs.Telling.{tells_and, tells_where, tells_unless, tells_flag}
 use Rattle.job.proofs.shape.stream_shaped.Goals as goal
 

@@ -1,6 +1,5 @@
 -- Nothing from coordinate n on; before it one field.
 use mathlib.Core.Path.{ap}
-use borrow.Author.Rules.{rules}
 use Rattle.buffer.proofs.Putting.{none, put_as, fits_as}
 use Rattle.line.specs.Fields.{fields_bytes}
 use Rattle.line.proofs.Rows.{field_bytes, room_head, put_last, room_held, put_held}

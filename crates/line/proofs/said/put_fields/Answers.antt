@@ -1,7 +1,6 @@
 -- Each case is a function's, and a limit has nothing more to say.
 use mathlib.Core.Path.{◌≡◌, ap}
 use Prim.Native.Nat.{ℕ}
-use borrow.Author.Rules.{rules}
 use Rattle.verdict.specs.declared.judge.Verdict.{Verdict}
 use Rattle.buffer.proofs.Putting.{none, put_as, fits_as}
 use Rattle.line.specs.Fields.{fields_bytes, besides}

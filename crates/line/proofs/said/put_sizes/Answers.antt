@@ -1,5 +1,4 @@
 -- Two fields: the ticks, then the room.
-use borrow.Author.Rules.{rules}
 use Rattle.line.proofs.Rows.{room_head, room_tail, put_tail, put_last}
 use Rattle.line.proofs.said.put_sizes.Goals as goal
 

@@ -1,5 +1,4 @@
 -- One field: the stream.
-use borrow.Author.Rules.{rules}
 use Rattle.line.proofs.Rows.{room_head, put_last}
 use Rattle.line.proofs.said.put_stream.Goals as goal
 

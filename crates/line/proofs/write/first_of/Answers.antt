@@ -1,7 +1,6 @@
 -- The first number: the cells, or the number of refusal that the verdict has.
 use mathlib.Core.Path.{ap, sym, ◌∙◌}
 use lib.IntN.{pos}
-use borrow.Author.Rules.{rules}
 use Rattle.verdict.specs.declared.judge.Verdict.{Verdict}
 use Rattle.verdict.specs.declared.numbers.InNumbers.{InNumbers}
 use Rattle.line.specs.Fields.{Field, lead}

@@ -1,6 +1,5 @@
 -- The first word goes by whether the job is accepted.
 use mathlib.Core.Path.{ap}
-use borrow.Author.Rules.{rules}
 use Rattle.line.specs.Fields.{Field}
 use Rattle.line.proofs.Leading.{not_accepted}
 use Rattle.line.proofs.write.lead_of.Goals as goal

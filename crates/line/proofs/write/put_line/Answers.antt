@@ -1,6 +1,5 @@
 -- The first word and number, what is said past them, and the newline: each fits into what the ones before it left.
-use mathlib.Core.Path.{◌≡◌, ap, ◌∙◌}
-use Rattle.buffer.specs.Put.{Fits, Put}
+use mathlib.Core.Path.{ap, ◌∙◌}
 use Rattle.line.proofs.Writers.{begins, second_fits, third_fits, fourth_fits, line_put, ended}
 use Rattle.line.proofs.write.put_line.Goals as goal
 

@@ -1,7 +1,6 @@
 -- A buffer that is long enough holds every line; the line is its first word and number, what is said past them, and the newline.
 use mathlib.Core.Path.{refl}
 use native.Mathlib.Omega.{arith}
-use borrow.Author.Rules.{rules}
 use Rattle.buffer.proofs.Putting.{put_as, fits_as}
 use Rattle.line.proofs.Whole.{line_as, line_room, line_written, line_inside}
 use Rattle.line.proofs.write.write_line.Goals as goal

@@ -1,5 +1,4 @@
 -- The word, and from where it ends the number.
-use borrow.Author.Rules.{rules}
 use Rattle.buffer.proofs.Putting.{and_then, first, left}
 use Rattle.print.specs.Words.{word_bytes}
 use Rattle.print.proofs.field.put_field.Goals as goal

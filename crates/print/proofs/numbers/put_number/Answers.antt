@@ -1,6 +1,5 @@
 -- Each kind of number is a function's.
 use mathlib.Core.Path.{◌≡◌, ap, ◌∙◌}
-use borrow.Author.Rules.{rules}
 use Rattle.space.proofs.Machine.{in_range}
 use Rattle.buffer.proofs.Putting.{put_as, fits_as}
 use Rattle.print.specs.Decimal.{decimal, value_of}

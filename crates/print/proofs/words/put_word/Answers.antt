@@ -2,7 +2,6 @@
 use native.Mathlib.Omega.{arith}
 use Rattle.buffer.proofs.Putting.{put_as, fits_as}
 use Rattle.print.proofs.Cutting.{within, word_cut}
-use borrow.Author.Rules.{rules}
 use Rattle.print.proofs.words.put_word.Goals as goal
 
 pub put_part-requires : goal.put_part-requires

@@ -1,5 +1,4 @@
 -- Entries at the even and at the odd places are a box.
-use borrow.Author.Rules.{rules}
 use Rattle.reader.proofs.Piecing.{box_in}
 use Rattle.reader.proofs.body.bounds_of.Goals as goal
 

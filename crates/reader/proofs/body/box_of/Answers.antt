@@ -4,7 +4,6 @@ use Prim.Native.Nat.{◌*◌, ◌-◌, ◌≤◌}
 use native.Mathlib.Omega.{arith}
 use lib.ListN.{length, drop, length-drop}
 use lib.Seq.{length-take-le}
-use borrow.Author.Rules.{rules}
 use Rattle.reader.proofs.body.box_of.Goals as goal
 
 pub returns : goal.returns

@@ -1,7 +1,6 @@
 -- Past the end the byte is 0, and so is the entry.
 use mathlib.Core.Path.{sym}
 use lib.ListN.{get_or-eq_default}
-use borrow.Author.Rules.{rules}
 use Rattle.reader.proofs.Piecing.{zero_held}
 use Rattle.reader.proofs.body.entry_at.Goals as goal
 

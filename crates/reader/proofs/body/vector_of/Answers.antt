@@ -1,5 +1,4 @@
 -- Entries one after the other are a vector.
-use borrow.Author.Rules.{rules}
 use Rattle.reader.proofs.Piecing.{vector_in}
 use Rattle.reader.proofs.body.vector_of.Goals as goal
 

@@ -1,6 +1,5 @@
 -- Side by side, as `within` tells.
 use mathlib.Core.Bool.{Bool}
-use borrow.Author.Rules.{rules}
 use lib.IntN.{ℤ}
 use lib.Signed.{◌≤ℤ◌}
 use mir.Syntax.{w64}

@@ -1,7 +1,6 @@
 -- The low corner and the digits of the place.
 use mathlib.Core.Path.{◌∙◌}
 use native.Mathlib.Omega.{arith}
-use borrow.Author.Rules.{rules}
 use Rattle.space.proofs.VectorLaws.{sized_up}
 use Rattle.space.proofs.Digits.{lengths_small, lengths_count}
 use Rattle.space.proofs.boxes.point.Goals as goal

@@ -1,9 +1,6 @@
 -- Euclid's loop: what is the greatest common divisor of x and y is that of a and b. The measure is y.
-use Prim.Native.Nat.{ℕ}
-use mathlib.Core.List.{[], ◌∷◌}
 use native.Mathlib.Nat.{mod-lt}
 use native.Mathlib.Omega.{arith}
-use Rattle.space.specs.Divisors.{GcdOf}
 use Rattle.space.proofs.DivisorLaws.{gcd_zero, gcd_turn}
 use Rattle.space.proofs.divisor.gcd.Goals as goal
 

@@ -1,6 +1,5 @@
 -- Entry by entry from the last two.
 use mathlib.Core.Path.{refl}
-use borrow.Author.Rules.{rules}
 use Rattle.space.proofs.Machine.{in_range, size_read}
 use Rattle.space.proofs.DivisorLaws.{gcd_more}
 use Rattle.space.proofs.divisor.gcd_of_entries.Goals as goal

@@ -1,6 +1,6 @@
 -- A negative number is -1 less the number that its size is one more than.
 use mathlib.Core.Path.{◌≡◌, ap, ◌∙◌}
-use Prim.Native.Nat.{◌+◌, ◌<◌}
+use Prim.Native.Nat.{◌+◌}
 use native.Mathlib.Omega.{arith}
 use lib.IntN.{ℤ, pos, negsuc, nat_abs, ◌-ℤ◌}
 use lib.Signed.{◌<ℤ◌, mag}

@@ -1,5 +1,4 @@
 -- No row of a job that is refused; else that of a job within the limits.
-use borrow.Author.Rules.{rules}
 use Rattle.job.proofs.Refusing.{accepted}
 use Rattle.tables.proofs.RowLaws.{no_job}
 use Rattle.tables.proofs.rows.row_of.Goals as goal

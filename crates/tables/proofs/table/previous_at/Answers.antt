@@ -1,6 +1,5 @@
 -- A step back by d in the job's box.
 use mathlib.Core.Path.{sym, ap, subst, ◌∙◌}
-use borrow.Author.Rules.{rules}
 use Rattle.space.specs.Numbers.{difference}
 use Rattle.space.specs.Vectors.{entries, Sized}
 use Rattle.space.specs.Boxes.{back_of}

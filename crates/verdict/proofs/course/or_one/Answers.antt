@@ -1,7 +1,6 @@
 -- 1 for 0, and a number that is not 0 for itself.
 use mathlib.Core.Path.{◌≡◌, refl}
 use Prim.Native.Nat.{ℕ, zero, suc}
-use borrow.Author.Rules.{rules}
 use Rattle.verdict.specs.Mapping.{or_one}
 use Rattle.verdict.proofs.course.or_one.Goals as goal
 

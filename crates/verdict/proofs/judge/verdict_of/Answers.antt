@@ -1,5 +1,4 @@
 -- The limit that is broken, or the verdict by the rules.
-use borrow.Author.Rules.{rules}
 use Rattle.job.proofs.Refusing.{accepted}
 use Rattle.verdict.proofs.Saying.{says_limit}
 use Rattle.verdict.proofs.judge.verdict_of.Goals as goal

@@ -1,6 +1,5 @@
 -- The verdict's case has its own number and values, and zeros besides.
 use mathlib.Core.Path.{sym, ap}
-use borrow.Author.Rules.{rules}
 use Rattle.space.proofs.Machine.{in_range, back}
 use Rattle.verdict.specs.Verdicts.{in_numbers}
 use Rattle.verdict.proofs.numbers.in_numbers.Goals as goal

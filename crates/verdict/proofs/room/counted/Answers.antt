@@ -1,6 +1,5 @@
 -- Each case's own number and count.
 use mathlib.Core.Path.{sym, ap}
-use borrow.Author.Rules.{rules}
 use Rattle.verdict.specs.Rooms.{counted_of}
 use Rattle.verdict.proofs.room.counted.Goals as goal
 

@@ -1,6 +1,5 @@
 -- Each case of the verdict is its own room count.
 use mathlib.Core.Path.{sym, ap}
-use borrow.Author.Rules.{rules}
 use Rattle.verdict.specs.Rooms.{room_of}
 use Rattle.verdict.proofs.room.room_in.Goals as goal
 

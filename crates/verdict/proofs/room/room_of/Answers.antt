@@ -1,5 +1,4 @@
 -- The room count in the verdict on the record.
-use borrow.Author.Rules.{rules}
 use Rattle.verdict.proofs.room.room_of.Goals as goal
 
 pub returns : goal.returns

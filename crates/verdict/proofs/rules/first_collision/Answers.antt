@@ -1,8 +1,7 @@
 -- No tokens of a stream before s meet.
-use Prim.Native.Nat.{ℕ, ◌-◌, ◌<◌, ◌≤◌}
+use Prim.Native.Nat.{ℕ, ◌<◌}
 use native.Mathlib.Omega.{arith}
 use borrow.Author.Count.{below_more}
-use borrow.Author.Rules.{rules}
 use Rattle.space.specs.Vectors.{entries}
 use Rattle.job.specs.declared.record.Job.{Job}
 use Rattle.verdict.specs.Rules.{Clear}

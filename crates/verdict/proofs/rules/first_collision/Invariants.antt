@@ -1,14 +1,6 @@
 -- No tokens of a stream before s meet.
 use Prim.Native.Nat.{ℕ, ◌-◌, ◌<◌, ◌≤◌}
-use native.Mathlib.Omega.{arith}
-use borrow.Author.Count.{below_more}
-use borrow.Author.Rules.{rules}
-use Rattle.space.specs.Vectors.{entries}
-use Rattle.job.specs.declared.record.Job.{Job}
 use Rattle.verdict.specs.Rules.{Clear}
-use Rattle.verdict.specs.Searches.{FindsCollisionOn, FindsCollision}
-use Rattle.verdict.specs.declared.judge.Collision.{Collision}
-use Rattle.verdict.specs.declared.rules.FoundCollision.TheVariants as FoundCollision
 use Rattle.verdict.proofs.rules.first_collision.Given as goal
 
 abbrev pub invariant-loop-s : goal.invariant-loop-s

@@ -5,7 +5,6 @@ use native.Mathlib.Nat.{dvd_of_mod-eq-zero, mod-eq-zero_of_dvd}
 use native.Mathlib.Omega.{arith}
 use lib.Dec.{eqb}
 use lib.IntN.{nat_abs}
-use borrow.Author.Rules.{rules}
 use Rattle.space.specs.Numbers.{Tells}
 use Rattle.space.proofs.Machine.{in_range, size_read, never}
 use Rattle.space.proofs.Telling.{tells_as, tells_eq}

@@ -1,9 +1,7 @@
 -- Every stream before s keeps the rule.
-use Prim.Native.Nat.{ℕ, ◌-◌, ◌<◌, ◌≤◌}
 use native.Mathlib.Omega.{arith}
 use borrow.Author.Count.{below_more}
 use Rattle.space.proofs.Telling.{granted, denied}
-use Rattle.verdict.specs.Rules.{Ahead}
 use Rattle.verdict.proofs.rules.late.Goals as goal
 
 pub loop-s-init : goal.loop-s-init

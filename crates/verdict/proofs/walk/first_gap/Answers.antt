@@ -1,6 +1,5 @@
 -- 0 is the point at its place, and the next is the one after it.
 use mathlib.Core.Path.{sym}
-use borrow.Author.Rules.{rules}
 use Rattle.space.specs.Vectors.{entries}
 use Rattle.space.specs.Boxes.{box_of, place_of}
 use Rattle.space.proofs.BoxLaws.{point_place}

@@ -1,6 +1,5 @@
 -- The place of 0 is below the count of the differences, at most 8,189 on each side.
 use native.Mathlib.Omega.{arith}
-use borrow.Author.Rules.{rules}
 use Rattle.space.specs.Vectors.{entries}
 use Rattle.space.specs.Boxes.{box_of}
 use Rattle.space.proofs.BoxLaws.{sides_sized, place_below}

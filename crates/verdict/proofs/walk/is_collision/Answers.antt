@@ -1,7 +1,6 @@
 -- A through stream's test is the multiple's, a local stream's is on sizes.
 use mathlib.Core.Path.{ap, ◌∙◌}
 use lib.IntN.{nat_abs}
-use borrow.Author.Rules.{rules}
 use Rattle.space.specs.Vectors.{entries}
 use Rattle.space.proofs.Machine.{back}
 use Rattle.verdict.proofs.Meetings.{none_tells, told_through, told_local}

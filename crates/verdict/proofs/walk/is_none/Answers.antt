@@ -1,6 +1,5 @@
 -- Each variant tells itself.
 use mathlib.Core.Path.{sym}
-use borrow.Author.Rules.{rules}
 use Rattle.space.proofs.Machine.{never}
 use Rattle.verdict.proofs.Meetings.{tag_none, some_not_none}
 use Rattle.verdict.proofs.walk.is_none.Goals as goal

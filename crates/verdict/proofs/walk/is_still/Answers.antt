@@ -4,7 +4,6 @@ use lib.Dec.{eqb}
 use lib.IntN.{ℤ, pos}
 use mir.Syntax.{w64}
 use mir.Val.{SFits, of_z}
-use borrow.Author.Rules.{rules}
 use Rattle.space.specs.Numbers.{Tells}
 use Rattle.space.proofs.Machine.{in_range}
 use Rattle.space.proofs.VectorLaws.{two, untwo, unfour}
