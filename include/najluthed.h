@@ -1,8 +1,8 @@
 /*
  * Najluthed: a verified checker for systolic-array designs, as a static library.
  *
- *     rt staticlib najluthed                  makes target/staticlib/libnajluthed.a (x86-64 Linux)
- *     gcc -Iinclude mine.c target/staticlib/libnajluthed.a
+ *     (cd crates/najluthed && rt lib)         makes crates/najluthed/out/libnajluthed.a (x86-64 Linux)
+ *     gcc -Iinclude mine.c crates/najluthed/out/libnajluthed.a
  *
  * Every function takes the bytes of a job file and answers in numbers, for all bytes and all lengths of table: `number` is the
  * number of refusal, and 0 where there is none. The checks are made in the order of the numbers:

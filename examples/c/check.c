@@ -2,8 +2,8 @@
  * Checks the job files named on the command line: for each its line, the verdict, the room, and, for an array that can be built, a
  * run beside the plain loop nest, entry k of the input table being k + 1. Exit status 1 where a value differs.
  *
- *     rt staticlib najluthed
- *     gcc -O2 -Wall -Wextra -Iinclude -o target/check examples/c/check.c target/staticlib/libnajluthed.a
+ *     (cd crates/najluthed && rt lib)
+ *     gcc -O2 -Wall -Wextra -Iinclude -o target/check examples/c/check.c crates/najluthed/out/libnajluthed.a
  *     target/check FILE...
  */
 #include <stdio.h>

@@ -1,8 +1,8 @@
 """Checks the job files named on the command line: for each its line, the verdict, the room, and, for an array that can be built, a
 run beside the plain loop nest, entry k of the input table being k + 1. Exit status 1 where a value differs.
 
-    rt staticlib najluthed
-    gcc -shared -o target/libnajluthed.so -Wl,--whole-archive target/staticlib/libnajluthed.a -Wl,--no-whole-archive
+    (cd crates/najluthed && rt lib)
+    gcc -shared -o target/libnajluthed.so -Wl,--whole-archive crates/najluthed/out/libnajluthed.a -Wl,--no-whole-archive
     python3 examples/python/check.py target/libnajluthed.so FILE...
 """
 import ctypes

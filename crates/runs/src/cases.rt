@@ -1,6 +1,6 @@
 // One case: what run, loop and single ticks make of a job and its input.
 use crate::guarded::{GUARD, front, is_guarded, is_same, part, rest};
-use crate::print::{every, holds, number, reply, say, wide};
+use crate::output::{every, holds, number, reply, say, wide};
 use job::numbers::Counted;
 use job::record::Job;
 use std::io::{self, Write};

@@ -6,14 +6,14 @@ mod cases;
 mod guarded;
 mod inputs;
 mod jobs;
-mod print;
+mod output;
 mod timetable;
 
 use crate::cases::{compare, unchanged};
 use crate::guarded::{GUARD, front, part};
 use crate::inputs::{matrices, numbers};
 use crate::jobs::vector;
-use crate::print::{every, reply, say};
+use crate::output::{every, reply, say};
 use crate::timetable::timetable;
 use job::numbers::Counted;
 use job::record::Job;

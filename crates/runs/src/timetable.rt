@@ -1,5 +1,5 @@
 // Which point is worked in which tick at which cell.
-use crate::print::{number, say, wide};
+use crate::output::{number, say, wide};
 use array::lookup::Lookup;
 use job::record::Job;
 use std::io::{self, Write};
@@ -41,7 +41,7 @@ fn worked<W: Write>(out: &mut W, j: Job, t: u64, x: u64) -> io::Result<()> {
     say(out, b" ")?;
     let w = array::lookup::point_at(j, t, x);
     match w {
-        Lookup::At(p) => crate::print::point(out, p, j.n),
+        Lookup::At(p) => crate::output::point(out, p, j.n),
         Lookup::Nowhere => say(out, b"-"),
         Lookup::Refused(v) => {
             let a = verdict::numbers::in_numbers(v);
