@@ -1,7 +1,7 @@
 """Checks the job files named on the command line: for each its line, the verdict, the room, and, for an array that can be built, a
 run beside the plain loop nest, entry k of the input table being k + 1. Exit status 1 where a value differs.
 
-    (cd crates/najluthed && rt lib)
+    (cd crates/najluthed && rt lib); mkdir -p target
     gcc -shared -o target/libnajluthed.so -Wl,--whole-archive crates/najluthed/out/libnajluthed.a -Wl,--no-whole-archive
     python3 examples/python/check.py target/libnajluthed.so FILE...
 """

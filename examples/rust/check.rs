@@ -1,7 +1,7 @@
 // Checks the job files named on the command line: for each its line, the verdict, the room, and, for an array that can be built, a
 // run beside the plain loop nest, entry k of the input table being k + 1. Exit status 1 where a value differs.
 //
-//     (cd crates/najluthed && rt lib)
+//     (cd crates/najluthed && rt lib); mkdir -p target
 //     rustc --edition 2021 -O -o target/check-rust examples/rust/check.rs -L crates/najluthed/out -l static=najluthed
 //     target/check-rust FILE...
 use std::process::exit;

@@ -1,3 +1,10 @@
-pub mod LimitDecisions
 pub mod Decisions
+pub mod RuleDecisions
+pub mod LimitDecisions
+pub mod Pairs
+pub mod Searching
+pub mod Sizes
+pub mod PastCell
+pub mod PastHop
+pub mod PastPrecedence
 pub mod Answer

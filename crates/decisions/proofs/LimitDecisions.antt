@@ -1,5 +1,5 @@
 -- The limits of a record decided, each as it is stated, and the number of the first that is broken.
-use Prim.Native.Nat.{ℕ, ◌+◌, ◌≤◌}
+use Prim.Native.Nat.{ℕ, ◌+◌}
 use lib.IntN.{ℤ, pos}
 use Rattle.space.specs.declared.vector.Vector.{Vector}
 use Rattle.space.specs.declared.boxes.Bounds.{Bounds}
@@ -10,9 +10,10 @@ use Rattle.job.specs.declared.record.Job.{Job}
 use Rattle.job.specs.declared.record.Stream.{Stream}
 use Rattle.job.specs.Record.{streams_of, rows_of}
 use Rattle.job.specs.Refusals.{First}
-use Rattle.job.specs.Limits.{Unused, Idle, Shaped, Boxed, Ruled, Sound, Rowed, limits, bound_limit, row_limit, point_limit, step_limit}
+use Rattle.job.specs.Limits.{Unused, Idle, Shaped, Boxed, Sound, Rowed, limits, bound_limit, row_limit, point_limit, step_limit}
 use Rattle.job.proofs.Shapes.{tells_idle, tells_shaped, tells_sound}
-use Rattle.decisions.proofs.Decisions.{Decided, alike, told_as, both, either, equal, below, at_most, equalℤ, sized, forward, solid, gcd_is, firsts, others, first_of}
+use Rattle.decisions.proofs.Decisions.{Decided, alike, told_as, both, equal, at_most, equalℤ, sized, forward, solid, gcd_is, firsts, others, first_of}
+use Rattle.decisions.proofs.RuleDecisions.{between, ruled}
 
 -- ---- 3
 -- the coordinates from n on are 0
@@ -24,10 +25,6 @@ abbrev idle : (s : Stream) → Decided (Idle s)
 idle s =
     told_as (λ r t. tells_idle t)
     (both (unused 0 s.d) (both (equal s.kind 0) (both (equal s.rule 0) (both (equal s.a 0) (equal s.b 0)))))
-
--- from a to b
-abbrev between : (a b n : ℕ) → Decided ((a ≤ n) × (n ≤ b))
-between a b n = both (at_most a n) (at_most n b)
 
 -- the counts are in range, and every unused place is 0
 abbrev shaped : (j : Job) → Decided (Shaped j)
@@ -46,12 +43,6 @@ boxed b =
     (both (both (sized bound_limit (entries b.low)) (sized bound_limit (entries b.high))) (both (solid (box_of b)) (at_most (count_of (box_of b)) point_limit)))
 
 -- ---- 7
--- rule 0 with sources 0, or rule 1 or 2 with sources below m
-abbrev ruled : (m : ℕ) (s : Stream) → Decided (Ruled m s)
-ruled m s =
-    either (alike (λ h. (h.0, h.1.0, h.1.1)) (λ h. (h.0, (h.1, h.2))) (both (equal s.rule 0) (both (equal s.a 0) (equal s.b 0))))
-    (alike (λ h. (h.0.0, h.0.1, h.1.0, h.1.1)) (λ h. ((h.0, h.1), (h.2, h.3))) (both (between 1 2 s.rule) (both (below s.a m) (below s.b m))))
-
 -- a stream keeps its line
 unfoldable sound : (m : ℕ) (s : Stream) → Decided (Sound m s)
 unfolding sized forward gcd_is

@@ -7,7 +7,7 @@ ghost use Rattle.space.specs.Vectors.{entries};
 ghost use Rattle.space.specs.Boxes.{In, point_of};
 ghost use Rattle.job.specs.Record.{box, points as points_of};
 ghost use Rattle.verdict.specs.Extents.{cells as cells_of};
-ghost use Rattle.frame.specs.Frames.{tick_of, cell_of, from as fromOf};
+ghost use Rattle.frame.specs.Frames.{tick_of, cell_of, from as from_of};
 ghost use Rattle.frame.specs.Framing.{Runnable, Framed, Banded, band_at, AllBanded, Stands, Timed};
 
 use bands::{Band, Rectangle};
@@ -165,7 +165,7 @@ fn band_after(j: Job, cells: u64, s: u8, b: Band) -> Band
 
 // The band of stream s, which begins at a place of the room.
 fn band_of(j: Job, s: u8, from: u64) -> Band
-    requires { Runnable j × (s < j.m) × (from ≡ fromOf j s) }
+    requires { Runnable j × (s < j.m) × (from ≡ from_of j s) }
     ensures { Banded j s result }
 {
     let c = verdict::course::course_of(j, s);

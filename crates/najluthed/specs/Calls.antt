@@ -2,14 +2,14 @@
 use Rattle.std.specs.Prelude.{◌≡◌, List, ℕ}
 use Rattle.job.specs.declared.numbers.Counted.{Counted}
 use Rattle.verdict.specs.Verdicts.{in_numbers}
-use Rattle.verdict.specs.Rooms.{counted_of as roomCounted}
+use Rattle.verdict.specs.Rooms.{counted_of as room_counted}
 use Rattle.verdict.specs.declared.judge.Verdict.{Verdict}
 use Rattle.verdict.specs.declared.numbers.InNumbers.{InNumbers}
 use Rattle.verdict.specs.declared.room.Room.{Room}
-use Rattle.checks.specs.Replies.{counted_of as runCounted}
+use Rattle.checks.specs.Replies.{counted_of as run_counted}
 use Rattle.checks.specs.declared.RunReply.{RunReply}
 use Rattle.checks.specs.declared.Work.{Work}
-use Rattle.array.specs.Loops.{counted_of as loopCounted}
+use Rattle.array.specs.Loops.{counted_of as loop_counted}
 use Rattle.array.specs.declared.loops.LoopReply.{LoopReply}
 use Rattle.array.specs.Lookups.{looked_of}
 use Rattle.array.specs.declared.lookup.Lookup.{Lookup}
@@ -42,13 +42,13 @@ abbrev pub AnswersSizes : List ℕ → Sizes → Type 0
 AnswersSizes s a = (m : Measures) × MeasuresOf s m × (a ≡ sizes m)
 
 abbrev pub AnswersRoom : List ℕ → Done → Type 0
-AnswersRoom s a = (r : Room) × CountsOf s r × (a ≡ done (roomCounted r))
+AnswersRoom s a = (r : Room) × CountsOf s r × (a ≡ done (room_counted r))
 
 abbrev pub AnswersWork : Work → List ℕ → List ℕ → List ℕ → List ℕ → List ℕ → List ℕ → Done → Type 0
-AnswersWork work s input values places values' places' a = (r : RunReply) × DoesOf work s input values places values' places' r × (a ≡ done (runCounted r))
+AnswersWork work s input values places values' places' a = (r : RunReply) × DoesOf work s input values places values' places' r × (a ≡ done (run_counted r))
 
 abbrev pub AnswersLoop : List ℕ → List ℕ → List ℕ → List ℕ → Done → Type 0
-AnswersLoop s input before after a = (r : LoopReply) × LoopsOf s input before after r × (a ≡ done (loopCounted r))
+AnswersLoop s input before after a = (r : LoopReply) × LoopsOf s input before after r × (a ≡ done (loop_counted r))
 
 abbrev pub AnswersPoint : List ℕ → ℕ → ℕ → PointReply → Type 0
 AnswersPoint s t x a = (r : Lookup) × LooksOf s t x r × (a ≡ point (looked_of r))

@@ -1,4 +1,4 @@
-// The line writer, which holds the lent bytes and the place of the next one from a line's first word to its end. Its thin functions take it apart, call a covered function on the slice and the number, and hand it back.
+// The line writer, which holds the lent bytes and the place of the next one from a line's first word to its end. Its thin functions call a covered function on the slice and the number, and move its place; `word` and `number` do so with a writer by value, and hand it on.
 ghost use Rattle.std.specs.Prelude.{◌≡◌};
 ghost use Rattle.buffer.specs.Put.{Fits};
 ghost use Rattle.print.specs.Decimal.{value_of, decimal};
