@@ -168,7 +168,7 @@ module _ (P : List ℤ → Type 0) (d : (y : List ℤ) → Decided (P y)) (b : B
       walk (count_of D - i) i (let k = place_below D (zeros_of D) w.zeros in omega arith) (passed_first P D i refl)
 
 -- ---- pairs
--- it is the first pair of a property that is one of differences
+-- the pair of a difference is the first of a property that is one of differences
 pub first_at : {P : List ℤ → List ℤ → Type 0} {Q : List ℤ → Type 0} (b : Bounds) → ByGap P (box_of b) Q → (y : Vector) → FindsGap Q (box_of b) (FoundGap.At y) → FirstPair P (start_of (box_of b) (entries y)) (plus_of (start_of (box_of b) (entries y)) (entries y))
 first_at b by y w =
     let x = entries y in
