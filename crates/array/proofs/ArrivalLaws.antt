@@ -1,5 +1,5 @@
 -- Laws of the arrivals of a tick: a band that took what arrives carries them one stream further.
-use mathlib.Core.Path.{◌≡◌, refl, sym, ap, ◌∙◌}
+use mathlib.Core.Path.{◌≡◌, sym, ap, ◌∙◌}
 use mathlib.Core.List.{List}
 use Prim.Native.Nat.{ℕ, ◌+◌, ◌*◌, ◌-◌, ◌%◌, ◌<◌}
 use native.Mathlib.Nat.{mod-lt}
@@ -19,10 +19,6 @@ use Rattle.frame.proofs.RoomLaws.{from_next, delay_some}
 use Rattle.array.specs.Ticks.{arrival}
 use Rattle.array.specs.Steps.{Roomy, Slot, in_band, Arrived}
 use Rattle.array.proofs.LendingLaws.{part, roomy_as, in_room, arrives_there, back, back_size, back_beyond, earlier, now_here}
-
--- no band has yet
-pub arrive_start : (j : Job) (t : ℕ) (before : List ℕ) → Arrived j t 0 before before
-arrive_start j t before = record { size = refl; arrives = λ s x ls lx. absurd (omega arith); keeps = λ s x r ls lx lr ne. absurd (omega arith); beyond = refl }
 
 -- the band of stream s is lent and comes back as ys
 module _ {f : Frame} (F : Framed f) {s : ℕ} (h : s < f.job.m) {b : Band} (B : Banded f.job s b) {t : ℕ} {before places ys : List ℕ} (r : Roomy f before) (d : Arrived f.job t s before places) (p : Slot f.job s (t % w f.job s) (in_band f.job t s (part b.from (f.cells * b.w) places)) (part b.from (f.cells * b.w) places) ys) where

@@ -1,7 +1,7 @@
 -- Laws of a stream's band as it is lent: it is what the band's functions ask for, what arrives in it is the arrival, and when it comes back the other bands are as they were.
 use mathlib.Core.Path.{◌≡◌, refl, sym, ap, ap₂, subst, ◌∙◌}
 use mathlib.Core.List.{List, ◌++◌}
-use mathlib.Core.Option.{Option, none, some}
+use Rattle.std.specs.Prelude.{Option, None, Some}
 use Prim.Native.Nat.{ℕ, ◌+◌, ◌*◌, ◌-◌, ◌%◌, ◌<◌, ◌≤◌}
 use native.Mathlib.Nat.{mod-lt, add-sub_cancel_left}
 use native.Mathlib.Omega.{arith}
@@ -17,7 +17,6 @@ use Rattle.bands.specs.declared.Band.{Band}
 use Rattle.frame.specs.Frames.{from, in_place}
 use Rattle.frame.specs.Framing.{Framed, Banded, band_at}
 use Rattle.frame.specs.declared.Frame.{Frame}
-use Rattle.frame.proofs.FrameLaws.{flat}
 use Rattle.frame.proofs.RoomLaws.{from_next, from_among, delay_some, band_in, short}
 use Rattle.array.specs.Ticks.{arrival}
 use Rattle.array.specs.Steps.{Roomy, BandOf, Slot, in_band}
@@ -37,10 +36,6 @@ part_size l a n h = rw (add-sub_cancel_left a n) (length-take-le n (drop a l) (r
 pub roomy_as : {f : Frame} {before after : List ℕ} → Roomy f before → length after ≡ length before → Roomy f after
 roomy_as r e = record { enough = omega (arith, r.enough, e) }
 
--- and so is a band
-pub band_as : {f : Frame} {s : ℕ} {before after : List ℕ} → BandOf f s before → length after ≡ length before → BandOf f s after
-band_as b e = record { stream = b.stream; size = e ∙ b.size }
-
 -- ---- the band of stream s
 -- the frame has it
 pub band_is : {f : Frame} {s : ℕ} {b : Band} → Framed f → s < f.job.m → b ≡ band_at f.bands s → Banded f.job s b
@@ -57,7 +52,7 @@ module _ {f : Frame} (F : Framed f) {s : ℕ} (h : s < f.job.m) {b : Band} (B : 
 
   -- what is asked of it to be read or rewritten at place t mod w
   pub lent : {band : List ℕ} → BandOf f s band → (t : ℕ) → Lent f.rectangle b (t % b.w) band
-  lent d t = record { flat = flat F; short = short F.runnable h B; inside = mod-lt t some_delay; size = d.size ∙ sym (ap₂ ◌*◌ (ap count_of F.rectangle) B.delay) }
+  lent d t = record { short = short F.runnable h B; inside = mod-lt t some_delay; size = d.size ∙ sym (ap₂ ◌*◌ (ap count_of F.rectangle) B.delay) }
 
   -- what arrives in it
   pub arrives : (band : List ℕ) (t x : ℕ) → arrival_in f.rectangle b (t % b.w) band x ≡ in_band f.job t s band x
@@ -85,9 +80,17 @@ module _ {f : Frame} (F : Framed f) {s : ℕ} (h : s < f.job.m) {b : Band} (B : 
   pub in_room : (places : List ℕ) (x r : ℕ) → x < cells f.job → r < w f.job s → at (w f.job s) (part b.from (f.cells * b.w) places) x r ≡ in_place f.job places s x r
   in_room places x r lx lr = part_at places b.from (f.cells * b.w) (x * w f.job s + r) (omega (arith, digits_lt lx lr, size_is)) ∙ ap (λ (i : ℕ). get_or places (i + (x * w f.job s + r)) 0) B.begin
 
-  -- place t mod w of cell x, in the room
+  -- place t mod w of cell x, in the band and in the room
+  pub slot_is : (t x : ℕ) → x * b.w + t % b.w ≡ x * w f.job s + t % w f.job s
+  slot_is t x = ap (λ (n : ℕ). x * n + t % n) B.delay
+
+  pub slot_in : {places : List ℕ} → Roomy f places → (t x : ℕ) → x < cells f.job → x * b.w + t % b.w < length (part b.from (f.cells * b.w) places)
+  slot_in {places} r t x lx =
+      let low : x < f.cells = omega (arith, lx, F.cells) in
+      omega (arith, digits_lt low (mod-lt t some_delay), part_size places b.from (f.cells * b.w) (fits r))
+
   pub place_is : (t x : ℕ) → b.from + (x * b.w + t % b.w) ≡ from f.job s + (x * w f.job s + t % w f.job s)
-  place_is t x = ap₂ ◌+◌ B.begin (ap (λ (n : ℕ). x * n + t % n) B.delay)
+  place_is t x = ap₂ ◌+◌ B.begin (slot_is t x)
 
   pub place_in : {places : List ℕ} → Roomy f places → (t x : ℕ) → x < cells f.job → b.from + (x * b.w + t % b.w) < length places
   place_in r t x lx = omega (arith, place_is t x, digits_lt lx (mod-lt t (delay_some F.runnable h)), band_in F.runnable h, r.enough)
@@ -97,9 +100,13 @@ module _ {f : Frame} (F : Framed f) {s : ℕ} (h : s < f.job.m) {b : Band} (B : 
   unfolding arrival
   arrives_there places t x = by (back_of (rectangle f.job) (hop f.job s) x) (back_below (rectangle f.job) (hop f.job s) x)
     where
-      by : (o : Option ℕ) → ((y : ℕ) → o ≡ some y → y < cells f.job) → given o 0 (λ (y : ℕ). at (w f.job s) (part b.from (f.cells * b.w) places) y (t % w f.job s)) ≡ given o 0 (λ (y : ℕ). in_place f.job places s y (t % w f.job s))
-      by none low = refl
-      by (some y) low = in_room places y (t % w f.job s) (low y refl) (mod-lt t (delay_some F.runnable h))
+      by : (o : Option ℕ) → ((y : ℕ) → o ≡ Some y → y < cells f.job) → given o 0 (λ (y : ℕ). at (w f.job s) (part b.from (f.cells * b.w) places) y (t % w f.job s)) ≡ given o 0 (λ (y : ℕ). in_place f.job places s y (t % w f.job s))
+      by None low = refl
+      by (Some y) low = in_room places y (t % w f.job s) (low y refl) (mod-lt t (delay_some F.runnable h))
+
+-- the band that the frame gives for stream s lies in any places as many as are enough
+pub lies_in : {f : Frame} {s : ℕ} {b : Band} {before : List ℕ} (places : List ℕ) → Framed f → s < f.job.m → b ≡ band_at f.bands s → Roomy f before → length places ≡ length before → b.from + f.cells * b.w ≤ length places
+lies_in places F h is r e = fits F h (band_is F h is) (roomy_as {after = places} r e)
 
 -- ---- a part that comes back
 -- zs is xs with ys for the k numbers from a on

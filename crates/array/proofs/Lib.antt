@@ -1,5 +1,5 @@
+pub mod Gathering
 pub mod RunLaws
-pub mod ReplyLaws
 pub mod UniqueTicks
 pub mod UniqueReplies
 pub mod LendingLaws

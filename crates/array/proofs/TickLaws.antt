@@ -2,7 +2,7 @@
 use mathlib.Core.Path.{◌≡◌, refl, sym, ap, ◌∙◌}
 use mathlib.Core.Bool.{Bool, false}
 use mathlib.Core.List.{List}
-use mathlib.Core.Option.{Option, none, some}
+use Rattle.std.specs.Prelude.{Option, None, Some}
 use Prim.Native.Nat.{ℕ, ◌+◌, ◌%◌, ◌<◌}
 use native.Mathlib.Nat.{mod-lt}
 use native.Mathlib.Numerals.{add-one}
@@ -66,12 +66,12 @@ module _ {j : Job} {input : List ℕ} {t : ℕ} {places values : List ℕ} where
     in_cells = cell_below j R.acceptable k lk
 
     -- by the cell rule none before it was worked in its cell
-    none_yet : last_of (works j t here) k ≡ none
+    none_yet : last_of (works j t here) k ≡ None
     none_yet = by (last_of (works j t here) k) refl
       where
-        by : (o : Option ℕ) → last_of (works j t here) k ≡ o → last_of (works j t here) k ≡ none
-        by none e = e
-        by (some i) e =
+        by : (o : Option ℕ) → last_of (works j t here) k ≡ o → last_of (works j t here) k ≡ None
+        by None e = e
+        by (Some i) e =
             let h = last_only (works j t here) k i e in
             let own = (works_tells j t here i).holds h.1 in
             absurd (omega (arith, one_point j R.acceptable R.apart i k (omega (arith, h.0)) lk (own.0 ∙ sym et) own.1))

@@ -11,7 +11,8 @@ use Rattle.verdict.specs.declared.judge.Extent.{Extent}
 use Rattle.verdict.specs.declared.judge.Verdict.TheVariants.{Accepted}
 use Rattle.frame.proofs.FrameLaws.{accepted_runs}
 use Rattle.checks.specs.Replies.{checks_of}
-use Rattle.checks.specs.declared.RunReply.{RunReply}
+use Rattle.std.specs.Prelude.{Result}
+use Rattle.checks.specs.declared.Undone.{Undone}
 use Rattle.checks.specs.declared.Work.{Work}
 use Rattle.checks.specs.declared.Work.TheVariants.{Run, Tick}
 use Rattle.checks.proofs.ReplyLaws.{passed}
@@ -24,7 +25,7 @@ use Rattle.array.proofs.UniqueTicks.{ticked_unique, ran_unique}
 neither : {v v' values p p' places : List ℕ} → (v ≡ values) × (p ≡ places) → (v' ≡ values) × (p' ≡ places) → (v ≡ v') × (p ≡ p')
 neither a b = (a.0 ∙ sym b.0, a.1 ∙ sym b.1)
 
-module _ (j : Job) (input values places v p v' p' : List ℕ) (r r' : RunReply) where
+module _ (j : Job) (input values places v p v' p' : List ℕ) (r r' : Result ℕ Undone) where
   -- what is done to the tables is one
   finished : (work : Work) (z : Extent) → Says j (Accepted z) → First (checks_of work j (length input) (length values) (length places) z) 0 → Worked work j input values places v p → Worked work j input values places v' p' → (v ≡ v') × (p ≡ p')
   finished Run z s f a b =

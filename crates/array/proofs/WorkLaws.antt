@@ -1,7 +1,7 @@
 -- Laws of the work at a point: what it takes in, and its values put into its cell stream by stream.
-use mathlib.Core.Path.{◌≡◌, refl, sym, ap, ◌∙◌}
+use mathlib.Core.Path.{◌≡◌, sym, ap, ◌∙◌}
 use mathlib.Core.List.{List}
-use mathlib.Core.Option.{none, some}
+use Rattle.std.specs.Prelude.{None, Some}
 use Prim.Native.Nat.{ℕ, ◌+◌, ◌*◌, ◌-◌, ◌%◌, ◌<◌, ◌≤◌}
 use native.Mathlib.Nat.{mod-lt}
 use native.Mathlib.Decide.{ℕ_discrete, dec_le}
@@ -16,34 +16,41 @@ use Rattle.job.specs.Limits.{Acceptable}
 use Rattle.job.specs.Record.{points}
 use Rattle.tables.specs.Tables.{entry_for, previous}
 use Rattle.tables.specs.Columns.{Column}
-use Rattle.tables.proofs.TableLaws.{same_work}
+use Rattle.tables.proofs.TableLaws.{same_work, place_as}
 use Rattle.verdict.specs.Extents.{cells, room}
 use Rattle.verdict.specs.Mapping.{w}
 use Rattle.bands.specs.Bands.{at}
 use Rattle.bands.specs.declared.Band.{Band}
 use Rattle.frame.specs.Frames.{cell_of, from, in_place}
-use Rattle.frame.specs.Framing.{Framed, Banded}
+use Rattle.frame.specs.Framing.{Framed, Banded, Stands}
 use Rattle.frame.specs.declared.Frame.{Frame}
+use Rattle.frame.specs.declared.Spot.{Spot}
+use Rattle.frame.proofs.FrameLaws.{cell_below}
 use Rattle.frame.proofs.RoomLaws.{from_next, from_among, delay_some}
-use Rattle.array.specs.Steps.{Roomy, taken, Put, Point}
-use Rattle.array.proofs.LendingLaws.{part, part_size, size_is, fits, roomy_as, in_room, back, back_size, back_beyond, earlier, now_here}
+use Rattle.array.specs.Steps.{Tabled, Roomy, taken, Put, Point}
+use Rattle.array.proofs.LendingLaws.{part, part_size, size_is, fits, roomy_as, in_room, slot_is, back, back_size, back_beyond, earlier, now_here}
+
+-- ---- a spot
+-- its cell is one of the array's
+pub spot_below : {f : Frame} {spot : Spot} → Framed f → Stands f spot → spot.cell < cells f.job
+spot_below {f} {spot} F p = omega (arith, p.cell, cell_below f.job F.runnable.acceptable spot.place p.low)
+
+-- a table is read for stream s and place k where the frame's point count has it
+pub read_there : {f : Frame} {table : List ℕ} (s k : ℕ) {i : ℕ} → Tabled f table → i ≡ s * f.points + k → get_or table i 0 ≡ entry_for f.job table s k
+read_there {f} {table} s k T e = ap (λ (i : ℕ). get_or table i 0) (place_as f.job s k e T.framed.points)
 
 -- ---- what a point takes in
 -- where the point before is in the box, what stands in its cell
-pub taken_some : (j : Job) (input : List ℕ) (t : ℕ) (places : List ℕ) (s x k q : ℕ) → previous j s k ≡ some q → in_place j places s x (t % w j s) ≡ taken j input t places s x k
+pub taken_some : (j : Job) (input : List ℕ) (t : ℕ) (places : List ℕ) (s x k q : ℕ) → previous j s k ≡ Some q → in_place j places s x (t % w j s) ≡ taken j input t places s x k
 taken_some j input t places s x k q e = rw e
 
 -- where it is not, the input
-pub taken_none : (j : Job) (input : List ℕ) (t : ℕ) (places : List ℕ) (s x k : ℕ) → previous j s k ≡ none → entry_for j input s k ≡ taken j input t places s x k
+pub taken_none : (j : Job) (input : List ℕ) (t : ℕ) (places : List ℕ) (s x k : ℕ) → previous j s k ≡ None → entry_for j input s k ≡ taken j input t places s x k
 taken_none j input t places s x k e = rw e
 
 -- ---- its values, stream by stream
--- none is put yet
-pub put_start : {j : Job} {t : ℕ} {values : List ℕ} {x k : ℕ} (places : List ℕ) → Put j t values x k 0 places places
-put_start places = record { size = refl; stores = λ s ls. absurd (omega arith); keeps = λ s y r ls ly lr ne. refl; beyond = refl }
-
 -- the band of stream s is lent, and comes back with v at cell x
-module _ {f : Frame} (F : Framed f) {s : ℕ} (h : s < f.job.m) {b : Band} (B : Banded f.job s b) {t : ℕ} {values before places ys : List ℕ} {x k : ℕ} (v : ℕ) (lx : x < cells f.job) (r : Roomy f before) (d : Put f.job t values x k s before places) (is : ys ≡ set (part b.from (f.cells * b.w) places) (x * w f.job s + t % w f.job s) v) (e : v ≡ entry_for f.job values s k) where
+module _ {f : Frame} (F : Framed f) {s : ℕ} (h : s < f.job.m) {b : Band} (B : Banded f.job s b) {t : ℕ} {values before places ys : List ℕ} {x k : ℕ} (v : ℕ) (lx : x < cells f.job) (r : Roomy f before) (d : Put f.job t values x k s before places) (put : ys ≡ set (part b.from (f.cells * b.w) places) (x * b.w + t % b.w) v) (e : v ≡ entry_for f.job values s k) where
   abbrev j : Job
   j = f.job
 
@@ -58,6 +65,9 @@ module _ {f : Frame} (F : Framed f) {s : ℕ} (h : s < f.job.m) {b : Band} (B : 
 
   roomy : Roomy f places
   roomy = roomy_as r d.size
+
+  is : ys ≡ set band (x * w j s + slot) v
+  is = put ∙ ap (λ (i : ℕ). set band i v) (slot_is F h B t x)
 
   same : length ys ≡ length band
   same = ap length is ∙ length-set band (x * w j s + slot) v

@@ -9,7 +9,7 @@ use Rattle.tables.specs.Tables.{entry_for, previous}
 use Rattle.cell.specs.Cells.{work}
 use Rattle.bands.specs.Bands.{at}
 use Rattle.frame.specs.Frames.{tick_of, cell_of, from, in_place}
-use Rattle.frame.specs.Framing.{Framed}
+use Rattle.frame.specs.Framing.{Framed, Timed}
 use Rattle.frame.specs.declared.Frame.{Frame}
 use Rattle.array.specs.Ticks.{last_of, works, arrival, fresh}
 
@@ -22,14 +22,14 @@ pub record Tabled (f : Frame) (table : List ℕ) : Type 0 where
 pub record Roomy (f : Frame) (places : List ℕ) : Type 0 where
   pub enough : room f.job ≤ length places
 
+-- what a tick is lent: the input and the value table, places that suffice, and the timetable
+abbrev pub Supplied : Frame → List ℕ → List ℕ → List ℕ → List ℕ → Type 0
+Supplied f input values places timetable = Tabled f input × Tabled f values × Roomy f places × Timed f timetable
+
 -- the band of stream s, with the places that it has
 pub record BandOf (f : Frame) (s : ℕ) (band : List ℕ) : Type 0 where
   pub stream : s < f.job.m
   pub size : length band ≡ cells f.job * w f.job s
-
--- a table, or what is left of it, has a row
-pub record Fronted (j : Job) (table : List ℕ) : Type 0 where
-  pub long : points j ≤ length table
 
 -- place slot of the cells of a band is rewritten by f, the other places stay
 pub record Slot (j : Job) (s slot : ℕ) (f : ℕ → ℕ) (before after : List ℕ) : Type 0 where

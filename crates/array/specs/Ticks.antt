@@ -1,6 +1,5 @@
 -- 'One tick t, for stream s with delay w': arrivals, incoming values, new values, and what the places and the value table then hold. (REFERENCE 4.5 to 4.7)
-use Rattle.std.specs.Prelude.{◌≡◌, Bool, cond, ◌&&◌, List, ℕ, zero, suc, ◌%◌, ◌<◌, eqb, length, drop}
-use Rattle.std.proofs.Math.Option.{Option, none, some}
+use Rattle.std.specs.Prelude.{◌≡◌, Bool, cond, ◌&&◌, List, ℕ, zero, suc, ◌%◌, ◌<◌, eqb, length, drop, Option, None, Some}
 use Rattle.space.specs.Boxes.{back_of, given}
 use Rattle.job.specs.declared.record.Job.{Job}
 use Rattle.verdict.specs.Mapping.{hop, w}
@@ -12,8 +11,8 @@ use Rattle.frame.specs.Frames.{tick_of, cell_of, in_place}
 
 -- the last of the first n numbers that passes a test
 unfoldable pub last_of : (ℕ → Bool) → ℕ → Option ℕ
-last_of test zero = none
-last_of test (suc n) = cond (test n) (some n) (last_of test n)
+last_of test zero = None
+last_of test (suc n) = cond (test n) (Some n) (last_of test n)
 
 -- 'a box point i has Si = x and Hi = least H + t': its place; by the cell rule an accepted job has no two
 abbrev pub works : Job → ℕ → ℕ → ℕ → Bool

@@ -6,6 +6,8 @@
 pub mod run;
 // One tick: the arrivals, then the work.
 pub mod tick;
+// A number of each stream, gathered into an array.
+mod gather;
 // The arrivals of a tick, each stream's band lent on by itself.
 mod arrive;
 // The work of a tick, and the storing of its values.

@@ -1,17 +1,16 @@
 // The array: a run of all ticks, and a single tick.
 ghost use Rattle.std.specs.Prelude.{◌≡◌, ◌≤◌, length};
 ghost use Rattle.verdict.specs.Verdicts.{Says};
-ghost use Rattle.frame.specs.Framing.{Timed};
 ghost use Rattle.array.specs.Runs.{Ran, cleared, Does, Runs, SingleTick};
-ghost use Rattle.array.specs.Steps.{Tabled, Roomy};
+ghost use Rattle.array.specs.Steps.{Supplied};
 
-use checks::{RunReply, Work};
+use checks::{Undone, Work};
 use frame::Frame;
 use job::record::Job;
 use verdict::judge::Verdict;
 
-// The run of a record: the first R places cleared, then every tick in order.
-pub fn run_of(j: Job, input: &[u32], values: &mut [u32], places: &mut [u32]) -> RunReply
+// The run of a record: the first R places cleared, then every tick in order. (Run and tick are two names that the document gives to one function, `work_out`.)
+pub fn run_of(j: Job, input: &[u32], values: &mut [u32], places: &mut [u32]) -> Result<u64, Undone>
     ensures { Runs j input.now values.old places.old values.new places.new result }
 {
     work_out(
@@ -19,13 +18,19 @@ pub fn run_of(j: Job, input: &[u32], values: &mut [u32], places: &mut [u32]) -> 
         verdict::judge::verdict_of(j),
         Work::Run,
         input,
-        &mut values[..],
-        &mut places[..],
+        values,
+        places,
     )
 }
 
 // One tick of a record, from the lent places as they are.
-pub fn tick_of(j: Job, t: u64, input: &[u32], values: &mut [u32], places: &mut [u32]) -> RunReply
+pub fn tick_of(
+    j: Job,
+    t: u64,
+    input: &[u32],
+    values: &mut [u32],
+    places: &mut [u32],
+) -> Result<u64, Undone>
     ensures { SingleTick t j input.now values.old places.old values.new places.new result }
 {
     work_out(
@@ -33,8 +38,8 @@ pub fn tick_of(j: Job, t: u64, input: &[u32], values: &mut [u32], places: &mut [
         verdict::judge::verdict_of(j),
         Work::Tick(t),
         input,
-        &mut values[..],
-        &mut places[..],
+        values,
+        places,
     )
 }
 
@@ -46,32 +51,27 @@ pub fn work_out(
     input: &[u32],
     values: &mut [u32],
     places: &mut [u32],
-) -> RunReply
+) -> Result<u64, Undone>
     requires { Says j v }
     ensures { Does work j input.now values.old places.old values.new places.new result }
 {
     let Verdict::Accepted(extent) = v else {
-        return RunReply::Refused(v);
+        return Err(Undone::Refused(v));
     };
-    let reply = checks::lacking(j, extent, work, input.len(), values.len(), places.len());
-    let RunReply::Ticks(ticks) = reply else {
-        return reply;
-    };
+    let ticks = checks::lacking(j, extent, work, input.len(), values.len(), places.len())?;
     let f = frame::frame_of(j);
     let mut timetable = [0u64; frame::TIMETABLE];
-    frame::fill_timetable(f, &mut timetable[..]);
+    frame::fill_timetable(f, &mut timetable);
     let times = &timetable[..];
+    // A value and no closure: see `Work`.
     match work {
         Work::Run => {
-            clear(&mut places[..], extent.room as usize);
-            all_ticks(f, times, ticks, input, &mut values[..], &mut places[..]);
-            RunReply::Ticks(ticks)
+            clear(places, extent.room as usize);
+            all_ticks(f, times, ticks, input, values, places);
         }
-        Work::Tick(t) => {
-            crate::tick::one_tick(f, times, t, input, &mut values[..], &mut places[..]);
-            RunReply::Ticks(ticks)
-        }
+        Work::Tick(t) => crate::tick::one_tick(f, times, t, input, values, places),
     }
+    Ok(ticks)
 }
 
 // The first n places are cleared.
@@ -79,11 +79,7 @@ fn clear(places: &mut [u32], n: usize)
     requires { n ≤ length places.old }
     ensures { places.new ≡ cleared n places.old }
 {
-    let mut i = 0;
-    while i < n {
-        places[i] = 0;
-        i += 1;
-    }
+    places[..n].fill(0);
 }
 
 // Every tick in order.
@@ -95,12 +91,10 @@ fn all_ticks(
     values: &mut [u32],
     places: &mut [u32],
 )
-    requires { Tabled f input.now × Tabled f values.old × Roomy f places.old × Timed f timetable.now }
+    requires { Supplied f input.now values.old places.old timetable.now }
     ensures { Ran f.job input.now places.old values.old ticks places.new values.new }
 {
-    let mut t: u64 = 0;
-    while t < ticks {
-        crate::tick::one_tick(f, timetable, t, input, &mut values[..], &mut places[..]);
-        t += 1;
+    for t in 0..ticks {
+        crate::tick::one_tick(f, timetable, t, input, values, places);
     }
 }

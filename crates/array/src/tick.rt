@@ -1,11 +1,11 @@
 // One tick of the array of a job that may run.
-ghost use Rattle.frame.specs.Framing.{Timed};
 ghost use Rattle.array.specs.Ticks.{Ticked};
-ghost use Rattle.array.specs.Steps.{Tabled, Roomy};
+ghost use Rattle.array.specs.Steps.{Supplied};
 
 use frame::Frame;
 
 // One tick: every cell takes its arrivals, each read before its place is rewritten; then the points are worked.
+// The tables are lent one by one, in no struct: each step below gets those alone that it reads or writes.
 pub fn one_tick(
     f: Frame,
     timetable: &[u64],
@@ -14,9 +14,9 @@ pub fn one_tick(
     values: &mut [u32],
     places: &mut [u32],
 )
-    requires { Tabled f input.now × Tabled f values.old × Roomy f places.old × Timed f timetable.now }
+    requires { Supplied f input.now values.old places.old timetable.now }
     ensures { Ticked f.job input.now t places.old values.old places.new values.new }
 {
-    crate::arrive::arrive(f, t, &mut places[..]);
-    crate::work::work(f, timetable, t, input, &mut values[..], &mut places[..]);
+    crate::arrive::arrive(f, t, places);
+    crate::work::work(f, timetable, t, input, values, places);
 }

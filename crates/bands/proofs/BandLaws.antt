@@ -3,7 +3,7 @@ use mathlib.Core.Path.{◌≡◌, refl, sym, ap, ◌∙◌}
 use mathlib.Core.Logic.{◌⊎◌, inl, inr}
 use mathlib.Core.Bool.{Bool, true, false}
 use mathlib.Core.List.{List, [], ◌∷◌}
-use mathlib.Core.Option.{Option, none, some}
+use Rattle.std.specs.Prelude.{Option, None, Some}
 use Prim.Native.Nat.{ℕ, ◌+◌, ◌*◌, ◌/◌, ◌%◌, ◌<◌, ◌≤◌}
 use native.Mathlib.Nat.{le_trans, le_of_eq, mul-one, mul-le-mul, div-one, mod-lt, div-lt_iff_lt-mul}
 use native.Mathlib.Decide.{ℕ_discrete}
@@ -23,9 +23,9 @@ use Rattle.space.proofs.VectorLaws.{two}
 use Rattle.space.proofs.BoxLaws.{across_size, behind, point_in, place_point, before_place}
 use Rattle.space.proofs.BackLaws.{back_some, back_below}
 use Rattle.space.proofs.Rows.{other_spot, rows_same}
-use Rattle.bands.specs.declared.Rectangle.{Rectangle}
+use Rattle.bands.specs.declared.rectangle.Rectangle.{Rectangle}
 use Rattle.bands.specs.declared.Band.{Band}
-use Rattle.bands.specs.Bands.{rectangle_of, hop_of, at, arrival_in, Flat, Lent, Shifted}
+use Rattle.bands.specs.Bands.{rectangle_of, hop_of, at, arrival_in, Lent, Shifted}
 use Rattle.bands.specs.Turns.{turn_of, Ordered}
 
 -- ---- two sides
@@ -45,20 +45,20 @@ unfolding count_of place_of
 cell_place s t y z n e = rw e (omega arith)
 
 -- the row and the column of a cell are at most twice the limit, and there are columns
-pub few : {r : Rectangle} → Flat r → (x n : ℕ) → n ≡ count_of (side r.low1 r.high1 ∷ []) → x < count_of (rectangle_of r) → (0 < n) × (x / n ≤ limit + limit) × (x % n ≤ limit + limit)
+pub few : (r : Rectangle) (x n : ℕ) → n ≡ count_of (side r.low1 r.high1 ∷ []) → x < count_of (rectangle_of r) → (0 < n) × (x / n ≤ limit + limit) × (x % n ≤ limit + limit)
 unfolding count_of
-few {r} f x n e h =
-    let rows = across_size (side r.low0 r.high0) f.rows.0 f.rows.1 in
-    let columns = across_size (side r.low1 r.high1) f.columns.0 f.columns.1 in
+few r x n e h =
+    let rows = across_size (side r.low0 r.high0) r.rows.0 r.rows.1 in
+    let columns = across_size (side r.low1 r.high1) r.columns.0 r.columns.1 in
     let some : 0 < n = rw e (behind _ _ x h) in
     let row = (div-lt_iff_lt-mul some).1 (rw (← e) at h) in
     (some, omega arith, omega (arith, mod-lt x some, e))
 
 -- so the cells can be counted
-pub cells_few : {r : Rectangle} → Flat r → count_of (rectangle_of r) ≤ (limit + (limit + 1)) * (limit + (limit + 1))
+pub cells_few : (r : Rectangle) → count_of (rectangle_of r) ≤ (limit + (limit + 1)) * (limit + (limit + 1))
 unfolding count_of
-cells_few {r} f =
-    mul-le-mul (across_size (side r.low0 r.high0) f.rows.0 f.rows.1) (le_trans (le_of_eq (mul-one _)) (across_size (side r.low1 r.high1) f.columns.0 f.columns.1))
+cells_few r =
+    mul-le-mul (across_size (side r.low0 r.high0) r.rows.0 r.rows.1) (le_trans (le_of_eq (mul-one _)) (across_size (side r.low1 r.high1) r.columns.0 r.columns.1))
 
 -- ---- a hop leads back to no higher cell, or to no lower one
 -- places come in the order of their points
@@ -84,18 +84,18 @@ higher x y a b (inl h) = inl (inl (omega (int, difference x a)))
 higher x y a b (inr h) = let e = h.0 in let f = h.1 in inl (inr (omega (int, difference x a), inl (omega (int, difference y b))))
 
 -- so one hop back never leads to a higher cell, or never to a lower one, by the first entry of the hop that is not 0
-module _ (b : Band) (r : Rectangle) (x y : ℕ) (lx : x < count_of (rectangle_of r)) (e : back_of (rectangle_of r) (hop_of b) x ≡ some y) where
+module _ (b : Band) (s t : Side) (x y : ℕ) (lx : x < count_of (s ∷ t ∷ [])) (e : back_of (s ∷ t ∷ []) (hop_of b) x ≡ Some y) where
   -- the two points, and their places
-  behind_it : In (rectangle_of r) (minus_of (point_of (rectangle_of r) x) (hop_of b)) × (place_of (rectangle_of r) (minus_of (point_of (rectangle_of r) x) (hop_of b)) ≡ y)
-  behind_it = back_some (rectangle_of r) (hop_of b) x y e
+  behind_it : In (s ∷ t ∷ []) (minus_of (point_of (s ∷ t ∷ []) x) (hop_of b)) × (place_of (s ∷ t ∷ []) (minus_of (point_of (s ∷ t ∷ []) x) (hop_of b)) ≡ y)
+  behind_it = back_some (s ∷ t ∷ []) (hop_of b) x y e
 
   pub goes_down : (pos 0 <ℤ b.hop0) ⊎ ((b.hop0 ≡ pos 0) × (pos 0 ≤ℤ b.hop1)) → y ≤ x
   unfolding point_of
-  goes_down h = omega (arith, at_most (rectangle_of r) _ _ behind_it.0 (point_in (rectangle_of r) x lx) (lower _ _ b.hop0 b.hop1 h), place_point (rectangle_of r) x lx, behind_it.1)
+  goes_down h = omega (arith, at_most (s ∷ t ∷ []) _ _ behind_it.0 (point_in (s ∷ t ∷ []) x lx) (lower _ _ b.hop0 b.hop1 h), place_point (s ∷ t ∷ []) x lx, behind_it.1)
 
   pub goes_up : (b.hop0 <ℤ pos 0) ⊎ ((b.hop0 ≡ pos 0) × (b.hop1 <ℤ pos 0)) → x ≤ y
   unfolding point_of
-  goes_up h = omega (arith, at_most (rectangle_of r) _ _ (point_in (rectangle_of r) x lx) behind_it.0 (higher _ _ b.hop0 b.hop1 h), place_point (rectangle_of r) x lx, behind_it.1)
+  goes_up h = omega (arith, at_most (s ∷ t ∷ []) _ _ (point_in (s ∷ t ∷ []) x lx) behind_it.0 (higher _ _ b.hop0 b.hop1 h), place_point (s ∷ t ∷ []) x lx, behind_it.1)
 
 -- ---- turns
 -- the cell of a turn is a cell, and its turn is that one
@@ -110,7 +110,7 @@ turn_turn false n k h = refl
 -- ---- places
 -- places of the same length are lent as well
 pub lent_as : {r : Rectangle} {b : Band} {slot : ℕ} {before after : List ℕ} → Lent r b slot before → length after ≡ length before → Lent r b slot after
-lent_as l e = record { flat = l.flat; short = l.short; inside = l.inside; size = e ∙ l.size }
+lent_as l e = record { short = l.short; inside = l.inside; size = e ∙ l.size }
 
 -- place slot of a cell is among the places
 pub its_place : {r : Rectangle} {b : Band} {slot : ℕ} {places : List ℕ} → Lent r b slot places → (x : ℕ) → x < count_of (rectangle_of r) → x * b.w + slot < length places
@@ -128,21 +128,18 @@ module _ (r : Rectangle) (b : Band) (slot : ℕ) (down : Bool) (before : List �
     pub left : (x : ℕ) → x < cells → k ≤ turn_of down cells x → at b.w after x slot ≡ at b.w before x slot
     pub others : (x q : ℕ) → x < cells → q < b.w → (q ≡ slot → ⊥) → at b.w after x q ≡ at b.w before x q
 
-  pub shift_start : Shifting 0 before
-  shift_start = record { size = refl; taken = λ x lx h. absurd (omega arith); left = λ x lx h. refl; others = λ x q lx lq ne. refl }
-
   -- the cell that is read has its turn at this one's or after it
-  late : (d : Bool) → Ordered b d → (x y : ℕ) → x < cells → back_of (rectangle_of r) (hop_of b) x ≡ some y → turn_of d cells x ≤ turn_of d cells y
-  late true o x y lx e = omega (arith, o.down refl r x y lx e)
-  late false o x y lx e = o.up refl r x y lx e
+  late : (d : Bool) → Ordered b d → (x y : ℕ) → x < cells → back_of (rectangle_of r) (hop_of b) x ≡ Some y → turn_of d cells x ≤ turn_of d cells y
+  late true o x y lx e = omega (arith, o.down refl _ _ x y lx e)
+  late false o x y lx e = o.up refl _ _ x y lx e
 
   -- what arrives at the cell whose turn it is arrived there before
   early : Ordered b down → (k : ℕ) (after : List ℕ) → Shifting k after → (x : ℕ) → x < cells → k ≤ turn_of down cells x → arrival_in r b slot after x ≡ arrival_in r b slot before x
   early o k after g x lx lk = by (back_of (rectangle_of r) (hop_of b) x) refl
     where
       by : (f : Option ℕ) → back_of (rectangle_of r) (hop_of b) x ≡ f → given f 0 (λ (y : ℕ). at b.w after y slot) ≡ given f 0 (λ (y : ℕ). at b.w before y slot)
-      by none e = refl
-      by (some y) e = g.left y (back_below (rectangle_of r) (hop_of b) x y e) (omega (arith, late down o x y lx e))
+      by None e = refl
+      by (Some y) e = g.left y (back_below (rectangle_of r) (hop_of b) x y e) (omega (arith, late down o x y lx e))
 
   pub shift_step : Lent r b slot before → Ordered b down → {k v x : ℕ} {after : List ℕ} → Shifting k after → k < cells → x ≡ turn_of down cells k → v ≡ arrival_in r b slot after x → Shifting (k + 1) (set after (x * b.w + slot) v)
   shift_step l o {k} {v} {x} {after} g lk ex ev = record {

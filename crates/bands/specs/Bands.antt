@@ -1,8 +1,8 @@
 -- 'Room layout: stream by stream, cell by cell, w places each': the band of one stream, and what arrives at its cells. (REFERENCE 4.3, 4.5)
 use Rattle.std.specs.Prelude.{◌≡◌, List, [], ◌∷◌, ℕ, ◌+◌, ◌*◌, ◌<◌, length, get_or, ℤ}
 use Rattle.space.specs.Numbers.{Size, limit}
-use Rattle.space.specs.Boxes.{Box, side, Solid, count_of, back_of, given}
-use Rattle.bands.specs.declared.Rectangle.{Rectangle}
+use Rattle.space.specs.Boxes.{Box, side, count_of, back_of, given}
+use Rattle.bands.specs.declared.rectangle.Rectangle.{Rectangle}
 use Rattle.bands.specs.declared.Band.{Band}
 
 -- the rectangle of cells, and one hop
@@ -20,20 +20,13 @@ at n l x r = get_or l (x * n + r) 0
 abbrev pub arrival_in : Rectangle → Band → ℕ → List ℕ → ℕ → ℕ
 arrival_in r b slot places x = given (back_of (rectangle_of r) (hop_of b) x) 0 (λ (y : ℕ). at b.w places y slot)
 
--- what the code asks of a rectangle: ends that fit, the low below the high
-pub record Flat (r : Rectangle) : Type 0 where
-  pub rows : Size limit r.low0 × Size limit r.high0
-  pub columns : Size limit r.low1 × Size limit r.high1
-  pub solid : Solid (rectangle_of r)
-
--- and of a hop
+-- what the code asks of a hop
 pub record Short (b : Band) : Type 0 where
   pub rows : Size limit b.hop0
   pub columns : Size limit b.hop1
 
 -- a band lent to be read or rewritten at one place of every cell
 pub record Lent (r : Rectangle) (b : Band) (slot : ℕ) (places : List ℕ) : Type 0 where
-  pub flat : Flat r
   pub short : Short b
   pub inside : slot < b.w
   pub size : length places ≡ count_of (rectangle_of r) * b.w

@@ -3,22 +3,16 @@
 #![tactic(auto)]
 
 ghost use Rattle.std.specs.Prelude.{◌≡◌, [], ◌∷◌, ◌<◌};
-ghost use Rattle.space.specs.Boxes.{side, In, count_of, place_of, back_of, found_of};
-ghost use Rattle.bands.specs.Bands.{rectangle_of, hop_of, arrival_in, Flat, Short, Lent, Shifted};
+ghost use Rattle.space.specs.Boxes.{side, In, count_of, place_of, back_of};
+ghost use Rattle.bands.specs.Bands.{rectangle_of, hop_of, arrival_in, Short, Lent, Shifted};
 ghost use Rattle.bands.specs.Turns.{turn_of, Ordered};
 
-use space::boxes::Found;
-
 // The rectangle of cells.
-#[derive(Clone, Copy)]
-pub struct Rectangle {
-    pub low0: i64,
-    pub high0: i64,
-    pub low1: i64,
-    pub high1: i64,
-}
+mod rectangle;
 
-// A stream's band: where it begins in the room, how many places a cell has, and one hop.
+pub use rectangle::Rectangle;
+
+// A stream's band: where it begins in the room, how many places a cell has, and one hop. (By number, as a `Rectangle`.)
 #[derive(Clone, Copy)]
 pub struct Band {
     pub from: u64,
@@ -29,7 +23,6 @@ pub struct Band {
 
 // How many columns the rectangle has.
 fn columns(r: Rectangle) -> u64
-    requires { Flat r }
     ensures { result ≡ count_of (side r.low1 r.high1 ∷ []) }
 {
     (r.high1 - r.low1) as u64 + 1
@@ -37,25 +30,25 @@ fn columns(r: Rectangle) -> u64
 
 // The number of a cell of the rectangle, row by row.
 pub fn number_of(r: Rectangle, y0: i64, y1: i64) -> u64
-    requires { Flat r × In (rectangle_of r) (y0 ∷ y1 ∷ []) }
+    requires { In (rectangle_of r) (y0 ∷ y1 ∷ []) }
     ensures { result ≡ place_of (rectangle_of r) (y0 ∷ y1 ∷ []) }
 {
     let row = space::boxes::steps_above(r.low0, y0);
     row * columns(r) + space::boxes::steps_above(r.low1, y1)
 }
 
-// The cell one hop before cell x, if it is in the rectangle.
-fn behind(r: Rectangle, b: Band, x: u64) -> Found
-    requires { Flat r × Short b × (x < count_of (rectangle_of r)) }
-    ensures { found_of result ≡ back_of (rectangle_of r) (hop_of b) x }
+// The cell one hop before cell x, if it is in the rectangle. (An `if`: only there has a cell its number.)
+fn behind(r: Rectangle, b: Band, x: u64) -> Option<u64>
+    requires { Short b × (x < count_of (rectangle_of r)) }
+    ensures { result ≡ back_of (rectangle_of r) (hop_of b) x }
 {
     let n = columns(r);
     let y0 = r.low0 + (x / n) as i64 - b.hop0;
     let y1 = r.low1 + (x % n) as i64 - b.hop1;
     if space::boxes::within(r.low0, y0, r.high0) & space::boxes::within(r.low1, y1, r.high1) {
-        Found::At(number_of(r, y0, y1))
+        Some(number_of(r, y0, y1))
     } else {
-        Found::Nowhere
+        None
     }
 }
 
@@ -85,11 +78,11 @@ fn arriving(places: &[u32], r: Rectangle, b: Band, slot: u64, x: u64) -> u32
 {
     let found = behind(r, b, x);
     match found {
-        Found::At(y) => {
+        Some(y) => {
             let i = (y * b.w + slot) as usize;
             places[i]
         }
-        Found::Nowhere => 0,
+        None => 0,
     }
 }
 
@@ -99,12 +92,10 @@ pub fn shift(places: &mut [u32], r: Rectangle, b: Band, cells: u64, slot: u64)
     ensures { Shifted r b slot places.old places.new }
 {
     let down = falls(b);
-    let mut k: u64 = 0;
-    while k < cells {
+    for k in 0..cells {
         let x = turn(down, cells, k);
         let v = arriving(&places[..], r, b, slot, x);
         let i = (x * b.w + slot) as usize;
         places[i] = v;
-        k += 1;
     }
 }

@@ -4,17 +4,15 @@
 
 ghost use Rattle.std.specs.Prelude.{◌≡◌, ◌≤◌, length};
 ghost use Rattle.job.specs.Limits.{Acceptable};
-ghost use Rattle.calls.specs.Bytes.{SaysOf, CountsOf, no_measures, MeasuresIn, MeasuresOf, RunsOf, SingleTickOf, LoopsOf, RowOf, LooksOf, WritesOf};
+ghost use Rattle.calls.specs.Bytes.{SaysOf, CountsOf, no_measures, MeasuresIn, MeasuresOf, DoesOf, RunsOf, SingleTickOf, LoopsOf, RowOf, LooksOf, WritesOf};
 
-use array::lookup::Lookup;
-use array::loops::LoopReply;
-use checks::{RunReply, Work};
+use array::loops::Unlooped;
+use checks::{Undone, Work};
 use job::record::Job;
-use reader::reading::Reading;
+use space::vector::Vector;
 use verdict::judge::{Extent, NO_EXTENT, Verdict};
-use verdict::room::Room;
 
-// What a caller must know to lend tables: the number of refusal, 0 for none; n, m and the points of a job that is within the limits; the extent of an accepted array. What there is not is 0.
+// What a caller must know to lend tables: the number of refusal, 0 for none; n, m and the points of a job that is within the limits; the extent of an accepted array. What there is not is 0. (Numbers, since that is what C gets.)
 #[derive(Clone, Copy)]
 pub struct Measures {
     pub number: u8,
@@ -28,15 +26,14 @@ pub struct Measures {
 pub fn verdict_of_bytes(s: &[u8]) -> Verdict
     ensures { SaysOf s.now result }
 {
-    let read = reader::reading::read(s);
-    match read {
-        Reading::Refused(number) => Verdict::Limit(number),
-        Reading::Job(j) => verdict::judge::judged(j),
+    match reader::reading::read(s) {
+        Ok(j) => verdict::judge::judged(j),
+        Err(why) => Verdict::from(why),
     }
 }
 
 // The room count.
-pub fn room_of_bytes(s: &[u8]) -> Room
+pub fn room_of_bytes(s: &[u8]) -> Result<u64, Verdict>
     ensures { CountsOf s.now result }
 {
     verdict::room::room_in(verdict_of_bytes(s))
@@ -46,10 +43,9 @@ pub fn room_of_bytes(s: &[u8]) -> Room
 pub fn measures_of_bytes(s: &[u8]) -> Measures
     ensures { MeasuresOf s.now result }
 {
-    let read = reader::reading::read(s);
-    match read {
-        Reading::Refused(number) => refused(number),
-        Reading::Job(j) => measured(j),
+    match reader::reading::read(s) {
+        Ok(j) => measured(j),
+        Err(why) => refused(u8::from(why)),
     }
 }
 
@@ -83,21 +79,15 @@ fn refused(number: u8) -> Measures
 }
 
 // The run.
-pub fn run_of_bytes(s: &[u8], input: &[u32], values: &mut [u32], places: &mut [u32]) -> RunReply
+pub fn run_of_bytes(
+    s: &[u8],
+    input: &[u32],
+    values: &mut [u32],
+    places: &mut [u32],
+) -> Result<u64, Undone>
     ensures { RunsOf s.now input.now values.old places.old values.new places.new result }
 {
-    let read = reader::reading::read(s);
-    match read {
-        Reading::Refused(number) => RunReply::Refused(Verdict::Limit(number)),
-        Reading::Job(j) => array::run::work_out(
-            j,
-            verdict::judge::judged(j),
-            Work::Run,
-            input,
-            &mut values[..],
-            &mut places[..],
-        ),
-    }
+    work_of_bytes(s, Work::Run, input, values, places)
 }
 
 // One tick, from the lent places as they are.
@@ -107,54 +97,49 @@ pub fn tick_of_bytes(
     input: &[u32],
     values: &mut [u32],
     places: &mut [u32],
-) -> RunReply
+) -> Result<u64, Undone>
     ensures { SingleTickOf t s.now input.now values.old places.old values.new places.new result }
 {
-    let read = reader::reading::read(s);
-    match read {
-        Reading::Refused(number) => RunReply::Refused(Verdict::Limit(number)),
-        Reading::Job(j) => array::run::work_out(
-            j,
-            verdict::judge::judged(j),
-            Work::Tick(t),
-            input,
-            &mut values[..],
-            &mut places[..],
-        ),
-    }
+    work_of_bytes(s, Work::Tick(t), input, values, places)
+}
+
+// A run or a tick.
+fn work_of_bytes(
+    s: &[u8],
+    work: Work,
+    input: &[u32],
+    values: &mut [u32],
+    places: &mut [u32],
+) -> Result<u64, Undone>
+    ensures { DoesOf work s.now input.now values.old places.old values.new places.new result }
+{
+    let j = reader::reading::read(s)?;
+    array::run::work_out(j, verdict::judge::judged(j), work, input, values, places)
 }
 
 // The loop.
-pub fn loop_of_bytes(s: &[u8], input: &[u32], values: &mut [u32]) -> LoopReply
+pub fn loop_of_bytes(s: &[u8], input: &[u32], values: &mut [u32]) -> Result<u64, Unlooped>
     ensures { LoopsOf s.now input.now values.old values.new result }
 {
-    let read = reader::reading::read(s);
-    match read {
-        Reading::Refused(number) => LoopReply::Refused(number),
-        Reading::Job(j) => array::loops::loop_within(j, input, &mut values[..]),
-    }
+    array::loops::loop_within(reader::reading::read(s)?, input, values)
 }
 
 // The row of stream i of a table.
 pub fn row_of_bytes<'a, 'b>(s: &'b [u8], table: &'a [u32], i: u8) -> &'a [u32]
     ensures { RowOf s.now table.now i result.now }
 {
-    let read = reader::reading::read(s);
-    match read {
-        Reading::Refused(_number) => &table[..0],
-        Reading::Job(j) => tables::rows::row_within(j, table, i),
+    match reader::reading::read(s) {
+        Ok(j) => tables::rows::row_within(j, table, i),
+        Err(_) => &table[..0],
     }
 }
 
 // The point worked in tick t at cell x.
-pub fn point_at_bytes(s: &[u8], t: u64, x: u64) -> Lookup
+pub fn point_at_bytes(s: &[u8], t: u64, x: u64) -> Result<Option<Vector>, Verdict>
     ensures { LooksOf s.now t x result }
 {
-    let read = reader::reading::read(s);
-    match read {
-        Reading::Refused(number) => Lookup::Refused(Verdict::Limit(number)),
-        Reading::Job(j) => array::lookup::point_judged(j, verdict::judge::judged(j), t, x),
-    }
+    let j = reader::reading::read(s)?;
+    array::lookup::point_judged(j, verdict::judge::judged(j), t, x)
 }
 
 // The printed line, written to the front of a buffer; its length.
@@ -162,9 +147,8 @@ pub fn line_of_bytes(out: &mut [u8], s: &[u8]) -> usize
     ensures writes { WritesOf s.now out.old result out.new }
     ensures inside { result ≤ length out.new }
 {
-    let read = reader::reading::read(s);
-    match read {
-        Reading::Refused(number) => line::write::write_line(out, 0, Verdict::Limit(number)),
-        Reading::Job(j) => line::write::write_line(out, j.n, verdict::judge::judged(j)),
+    match reader::reading::read(s) {
+        Ok(j) => line::write::write_line(out, j.n, verdict::judge::judged(j)),
+        Err(why) => line::write::write_line(out, 0, Verdict::from(why)),
     }
 }

@@ -8,7 +8,7 @@ use std::io;
 use std::io::{Read, Write};
 
 fn main(rt: HostRuntime) -> io::Result<()> {
-    // The longest job, and a byte more, by which a longer input is refused.
+    // The longest job, and a byte more, by which a longer input is refused. (Fixed memory, this buffer and the next: there is no heap.)
     let mut input = [0u8; 69];
     let got = read_full(&mut rt.stdin(), &mut input)?;
     let mut out = [0u8; line::write::LONGEST];

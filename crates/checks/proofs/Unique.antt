@@ -10,29 +10,32 @@ use Rattle.job.specs.Refusals.{Checks, First}
 use Rattle.job.proofs.Refusing.{first_unique}
 use Rattle.verdict.specs.Verdicts.{Says}
 use Rattle.verdict.specs.declared.judge.Extent.{Extent}
+use Rattle.verdict.specs.declared.judge.Verdict.{Verdict}
 use Rattle.verdict.specs.declared.judge.Verdict.TheVariants.{Accepted}
 use Rattle.verdict.proofs.Unique.{says_unique}
 use Rattle.verdict.proofs.Accepted.{sizes_same, no_refusal}
 use Rattle.checks.specs.Replies.{number_of, Besides, Lacks, Granted, Replies}
-use Rattle.checks.specs.declared.RunReply.{RunReply}
-use Rattle.checks.specs.declared.RunReply.TheVariants.{Ticks, Refused, Tables, Large, Few, Late}
+use Rattle.checks.specs.declared.Undone.{Undone}
+use Rattle.checks.specs.declared.Undone.TheVariants.{Refused, Tables, Large, Few, Late}
+use Rattle.std.specs.Prelude.{Result, Ok, Err}
 
 -- ---- what an accepted array lacks
 -- the reply with a number, of an array with the sizes z
-abbrev reply_of : Extent → ℕ → RunReply
-reply_of z n = cond (eqb n 0) (Ticks z.ticks) (cond (eqb n 13) Tables (cond (eqb n 14) (Large z.room) (cond (eqb n 15) (Few z.room) Late)))
+abbrev reply_of : Extent → ℕ → Result ℕ Undone
+reply_of z n =
+    cond (eqb n 0) (Ok z.ticks) (Err (cond (eqb n 13) Tables (cond (eqb n 14) (Large z.room) (cond (eqb n 15) (Few z.room) Late))))
 
 -- a reply is the one with its number
-by_number : (z : Extent) (r : RunReply) → Besides z r → r ≡ reply_of z (number_of r)
-by_number z (Ticks n) b = ap Ticks b
-by_number z (Refused v) b = absurd b
-by_number z Tables b = refl
-by_number z (Large r) b = ap Large b
-by_number z (Few r) b = ap Few b
-by_number z Late b = refl
+by_number : (z : Extent) (r : Result ℕ Undone) → Besides z r → r ≡ reply_of z (number_of r)
+by_number z (Ok n) b = ap Ok b
+by_number z (Err (Refused v)) b = absurd b
+by_number z (Err Tables) b = refl
+by_number z (Err (Large r)) b = ap (λ (n : ℕ). Err (Large n)) b
+by_number z (Err (Few r)) b = ap (λ (n : ℕ). Err (Few n)) b
+by_number z (Err Late) b = refl
 
 -- and its number is that of the first check that fails
-pub lacks_unique : (checks : Extent → Checks) (z : Extent) (r r' : RunReply) → Lacks checks z r → Lacks checks z r' → r ≡ r'
+pub lacks_unique : (checks : Extent → Checks) (z : Extent) (r r' : Result ℕ Undone) → Lacks checks z r → Lacks checks z r' → r ≡ r'
 lacks_unique checks z r r' a b =
     by_number z r a.besides ∙ ap (reply_of z) (first_unique (checks z) (number_of r) (number_of r') a.first b.first) ∙ sym (by_number z r' b.besides)
 
@@ -40,7 +43,7 @@ lacks_unique checks z r r' a b =
 -- replies by the same checks are the same, and so is what follows from what was done, or from nothing altered
 module _ (j : Job) (checks : Extent → Checks) {Done Done' Same Same' Goal : Type 0} (finished : (z : Extent) → Says j (Accepted z) → First (checks z) 0 → Done → Done' → Goal) (unaltered : Same → Same' → Goal) where
   -- on an accepted array
-  granted_unique : (r r' : RunReply) → Granted j checks Done Same r → Granted j checks Done' Same' r' → (r ≡ r') × Goal
+  granted_unique : (r r' : Result ℕ Undone) → Granted j checks Done Same r → Granted j checks Done' Same' r' → (r ≡ r') × Goal
   granted_unique r r' a b = (same, by (ℕ_discrete (number_of r) 0))
     where
       same : r ≡ r'
@@ -51,8 +54,8 @@ module _ (j : Job) (checks : Extent → Checks) {Done Done' Same Same' Goal : Ty
       by (no ne) = unaltered (a.same ne) (b.same (λ e. ne (ap number_of same ∙ e)))
 
   -- a refusal by the verdict and a reply on an accepted array are never both right, so at most one reply is
-  pub replies_unique : (r r' : RunReply) → Replies j checks Done Same r → Replies j checks Done' Same' r' → (r ≡ r') × Goal
-  replies_unique r r' (inl a) (inl b) = (a.is ∙ ap Refused (says_unique j a.verdict b.verdict a.says b.says) ∙ sym b.is, unaltered a.same b.same)
+  pub replies_unique : (r r' : Result ℕ Undone) → Replies j checks Done Same r → Replies j checks Done' Same' r' → (r ≡ r') × Goal
+  replies_unique r r' (inl a) (inl b) = (a.is ∙ ap (λ (v : Verdict). Err (Refused v)) (says_unique j a.verdict b.verdict a.says b.says) ∙ sym b.is, unaltered a.same b.same)
   replies_unique r r' (inl a) (inr b) = absurd (no_refusal j b.extent a.verdict b.accepted a.says a.refusal)
   replies_unique r r' (inr a) (inl b) = absurd (no_refusal j a.extent b.verdict a.accepted b.says b.refusal)
   replies_unique r r' (inr a) (inr b) = granted_unique r r' a b

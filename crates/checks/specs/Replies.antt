@@ -1,6 +1,7 @@
 -- What a run and a single tick answer: 'a run adds 13 to 15, a single tick 16 as well'. (REFERENCE 5.1, 13 to 16)
-use Rattle.std.specs.Prelude.{◌≡◌, ◌⊎◌, ℕ, ◌<◌, ◌≤◌}
+use Rattle.std.specs.Prelude.{◌≡◌, ◌⊎◌, ℕ, ◌<◌, ◌≤◌, Result, Ok, Err}
 use Rattle.job.specs.declared.numbers.Counted.{Counted}
+use Rattle.job.specs.Numbers.{counted_in}
 use Rattle.job.specs.declared.record.Job.{Job}
 use Rattle.job.specs.Refusals.{Checks, done, check, First}
 use Rattle.verdict.specs.Verdicts.{Says, number_of as number_in}
@@ -10,8 +11,8 @@ use Rattle.verdict.specs.declared.judge.Extent.{Extent}
 use Rattle.tables.specs.Tables.{Long}
 use Rattle.checks.specs.declared.Work.{Work}
 use Rattle.checks.specs.declared.Work.TheVariants.{Run, Tick}
-use Rattle.checks.specs.declared.RunReply.{RunReply}
-use Rattle.checks.specs.declared.RunReply.TheVariants.{Ticks, Refused, Tables, Large, Few, Late}
+use Rattle.checks.specs.declared.Undone.{Undone}
+use Rattle.checks.specs.declared.Undone.TheVariants.{Refused, Tables, Large, Few, Late}
 
 -- 14: 'R over 8,192'
 abbrev pub room_limit : ℕ
@@ -27,42 +28,45 @@ abbrev pub checks_of : Work → Job → ℕ → ℕ → ℕ → Extent → Check
 checks_of work j input values places z =
     check 13 (Long j input values) (check 14 (z.room ≤ room_limit) (check 15 (z.room ≤ places) (tick_checks work z.ticks)))
 
--- 'No.' and the count of 'Returns besides': the tick count, or R for 14 and 15
-abbrev pub counted_of : RunReply → Counted
-counted_of (Ticks n) = record { number = 0; count = n }
-counted_of (Refused v) = record { number = number_in v; count = 0 }
-counted_of Tables = record { number = 13; count = 0 }
-counted_of (Large r) = record { number = 14; count = r }
-counted_of (Few r) = record { number = 15; count = r }
-counted_of Late = record { number = 16; count = 0 }
+-- 'No.' and the count of 'Returns besides': R for 14 and 15
+abbrev pub in_numbers : Undone → Counted
+in_numbers (Refused v) = record { number = number_in v; count = 0 }
+in_numbers Tables = record { number = 13; count = 0 }
+in_numbers (Large r) = record { number = 14; count = r }
+in_numbers (Few r) = record { number = 15; count = r }
+in_numbers Late = record { number = 16; count = 0 }
 
-abbrev pub number_of : RunReply → ℕ
+-- the same of a reply, which is the tick count or why there is none
+abbrev pub counted_of : Result ℕ Undone → Counted
+counted_of = counted_in in_numbers
+
+abbrev pub number_of : Result ℕ Undone → ℕ
 number_of r = (counted_of r).number
 
 -- a reply on an accepted array of extent z returns its tick count or its room
-abbrev pub Besides : Extent → RunReply → Type 0
-Besides z (Ticks n) = n ≡ z.ticks
-Besides z (Refused v) = ⊥
-Besides z Tables = Unit {0}
-Besides z (Large r) = r ≡ z.room
-Besides z (Few r) = r ≡ z.room
-Besides z Late = Unit {0}
+abbrev pub Besides : Extent → Result ℕ Undone → Type 0
+Besides z (Ok n) = n ≡ z.ticks
+Besides z (Err (Refused v)) = ⊥
+Besides z (Err Tables) = Unit {0}
+Besides z (Err (Large r)) = r ≡ z.room
+Besides z (Err (Few r)) = r ≡ z.room
+Besides z (Err Late) = Unit {0}
 
 -- the first of the checks that fails for the extent z, or the tick count
-pub record Lacks (checks : Extent → Checks) (z : Extent) (r : RunReply) : Type 0 where
+pub record Lacks (checks : Extent → Checks) (z : Extent) (r : Result ℕ Undone) : Type 0 where
   pub first : First (checks z) (number_of r)
   pub besides : Besides z r
 
 -- the verdict's refusal: nothing lent is altered
-pub record Denied (j : Job) (Same : Type 0) (r : RunReply) : Type 0 where
+pub record Denied (j : Job) (Same : Type 0) (r : Result ℕ Undone) : Type 0 where
   pub verdict : Verdict
-  pub is : r ≡ Refused verdict
+  pub is : r ≡ Err (Refused verdict)
   pub says : Says j verdict
   pub refusal : number_in verdict ≡ 0 → ⊥
   pub same : Same
 
 -- an accepted array: what must hold of the tables where all checks pass is Done, and else nothing lent is altered
-pub record Granted (j : Job) (checks : Extent → Checks) (Done Same : Type 0) (r : RunReply) : Type 0 where
+pub record Granted (j : Job) (checks : Extent → Checks) (Done Same : Type 0) (r : Result ℕ Undone) : Type 0 where
   pub extent : Extent
   pub accepted : Says j (Accepted extent)
   pub lacks : Lacks checks extent r
@@ -70,5 +74,5 @@ pub record Granted (j : Job) (checks : Extent → Checks) (Done Same : Type 0) (
   pub same : (number_of r ≡ 0 → ⊥) → Same
 
 -- what a reply says
-abbrev pub Replies : Job → (Extent → Checks) → Type 0 → Type 0 → RunReply → Type 0
+abbrev pub Replies : Job → (Extent → Checks) → Type 0 → Type 0 → Result ℕ Undone → Type 0
 Replies j checks Done Same r = Denied j Same r ⊎ Granted j checks Done Same r

@@ -4,27 +4,29 @@
 
 ghost use Rattle.std.specs.Prelude.{◌≡◌, true, false};
 ghost use Rattle.job.specs.Limits.{Acceptable};
-ghost use Rattle.job.specs.Refusals.{First};
-ghost use Rattle.checks.specs.Replies.{tick_checks, checks_of, counted_of, Lacks};
+ghost use Rattle.job.specs.Refusals.{First, number_of};
+ghost use Rattle.checks.specs.Replies.{tick_checks, checks_of, in_numbers, Lacks};
+ghost use Rattle.checks.specs.declared.Undone.TheVariants.{Refused};
+ghost use Rattle.verdict.specs.declared.judge.Verdict.TheVariants.{Limit};
 
-use job::numbers::Counted;
+use job::numbers::{Counted, HasNumber};
 use job::record::Job;
+use job::refusal::Refusal;
 use verdict::judge::{Extent, Verdict};
 
 // 14: 'R over 8,192'.
 const ROOM_LIMIT: u64 = 8192;
 
-// What an array is asked to do: a run, all ticks from cleared places, or one tick.
+// What an array is asked to do: a run, all ticks from cleared places, or one tick. (A value and no closure: the promise, `Does`, and the checks say of it what was asked.)
 #[derive(Clone, Copy)]
 pub enum Work {
     Run,
     Tick(u64),
 }
 
-// What a run or a tick answers: the tick count; the verdict's refusal; 13; 14 and 15 with R; 16.
+// Why a run or a tick is not done: the verdict's refusal; 13; 14 and 15 with R; 16.
 #[derive(Clone, Copy)]
-pub enum RunReply {
-    Ticks(u64),
+pub enum Undone {
     Refused(Verdict),
     Tables,
     Large(u64),
@@ -32,38 +34,27 @@ pub enum RunReply {
     Late,
 }
 
-// The same in numbers: the tick count, or R for 14 and 15.
-pub fn counted(r: RunReply) -> Counted
-    ensures { result ≡ counted_of r }
-{
-    match r {
-        RunReply::Ticks(n) => Counted {
-            number: 0,
-            count: n,
-        },
-        RunReply::Refused(v) => {
-            let a = verdict::numbers::in_numbers(v);
-            Counted {
-                number: a.number,
-                count: 0,
-            }
-        }
-        RunReply::Tables => Counted {
-            number: 13,
-            count: 0,
-        },
-        RunReply::Large(room) => Counted {
-            number: 14,
-            count: room,
-        },
-        RunReply::Few(room) => Counted {
-            number: 15,
-            count: room,
-        },
-        RunReply::Late => Counted {
-            number: 16,
-            count: 0,
-        },
+// The number of refusal, and R for 14 and 15.
+impl HasNumber for Undone {
+    ghost counted = { in_numbers };
+
+    fn counted(self) -> Counted {
+        let (number, count) = match self {
+            Undone::Refused(v) => (verdict::numbers::in_numbers(v).number, 0),
+            Undone::Tables => (13, 0),
+            Undone::Large(room) => (14, room),
+            Undone::Few(room) => (15, room),
+            Undone::Late => (16, 0),
+        };
+        Counted { number, count }
+    }
+}
+
+impl From<Refusal> for Undone {
+    ghost from_gives = { λ why undone. undone ≡ Refused (Limit (number_of why)) };
+
+    fn from(why: Refusal) -> Undone {
+        Undone::Refused(Verdict::from(why))
     }
 }
 
@@ -75,24 +66,24 @@ pub fn lacking(
     input: usize,
     values: usize,
     places: usize,
-) -> RunReply
+) -> Result<u64, Undone>
     requires { Acceptable j }
     ensures { Lacks (checks_of work j input values places) extent result }
 {
     let table = tables::table::size_of(j);
-    if !((input == table) & (values == table)) {
-        return RunReply::Tables;
+    if input != table || values != table {
+        return Err(Undone::Tables);
     }
     if ROOM_LIMIT < extent.room {
-        return RunReply::Large(extent.room);
+        return Err(Undone::Large(extent.room));
     }
     if (places as u64) < extent.room {
-        return RunReply::Few(extent.room);
+        return Err(Undone::Few(extent.room));
     }
     if is_late(work, extent.ticks) {
-        return RunReply::Late;
+        return Err(Undone::Late);
     }
-    RunReply::Ticks(extent.ticks)
+    Ok(extent.ticks)
 }
 
 // Is it a single tick that is not below the tick count?

@@ -6,6 +6,9 @@ use native.Mathlib.Omega.{arith}
 use native.Mathlib.Decide.{dec_le}
 use lib.IntN.{ℤ, pos, nat_abs, ◌*ℤ◌}
 use lib.Signed.{quot_z}
+use Rattle.verdict.specs.declared.judge.Pair.{Pair}
+use Rattle.verdict.specs.declared.judge.Collision.{Collision}
+use Rattle.std.proofs.Common.{Option, Some, None}
 use Rattle.space.specs.declared.vector.Vector.{Vector}
 use Rattle.space.specs.declared.boxes.Bounds.{Bounds}
 use Rattle.space.specs.Vectors.{entries, dot_of, plus_of, minus_of, times_of}
@@ -22,13 +25,9 @@ use Rattle.job.specs.Record.{box, stream, along}
 use Rattle.verdict.specs.Mapping.{H, S, g, Stationary}
 use Rattle.verdict.specs.Collisions.{IsCollision, senders}
 use Rattle.verdict.specs.Courses.{time_and_place}
-use Rattle.verdict.specs.declared.walk.FoundGap.{FoundGap}
 use Rattle.verdict.specs.Rules.{Ahead, Even, Collides, Clear}
 use Rattle.verdict.specs.Verdicts.{Lowest, FirstPair}
 use Rattle.verdict.specs.Searches.{Still, CollidesBy, CollidesBySome, FindsStream, FindsGap, FindsPair, FindsCollisionOn, FindsCollision}
-use Rattle.verdict.specs.declared.rules.FoundStream.{FoundStream}
-use Rattle.verdict.specs.declared.rules.FoundPair.{FoundPair}
-use Rattle.verdict.specs.declared.rules.FoundCollision.{FoundCollision}
 use Rattle.decisions.proofs.Decisions.{Decided, holding, failing, alike, both, contrary, given, below, at_most, divides, at_mostℤ, equalℤ, same, cases}
 use Rattle.verdict.proofs.Gaps.{zeros_of, Spread, Passed, passed_first, passed_more, gap_found, gap_nowhere}
 use Rattle.verdict.proofs.Gaps as Gaps
@@ -44,14 +43,14 @@ module _ (P : ℕ → Type 0) (d : (t : ℕ) → Decided (P t)) where
   one_more m s h p w (no l) = w s (omega arith)
 
   -- the lowest of one stream more
-  abbrev next : (m : ℕ) (r : FoundStream) → FindsStream P m r → (r : FoundStream) × FindsStream P (suc m) r
-  next m (FoundStream.At s) w = (FoundStream.At s, record { below = let h = w.below in omega arith; broken = w.broken; kept = w.kept })
-  next m FoundStream.Nowhere w =
-      cases (d m) (λ p. (FoundStream.Nowhere, λ s h. one_more m s h p w (dec_le m s))) (λ n. (FoundStream.At m, record { below = omega arith; broken = n; kept = w }))
+  abbrev next : (m : ℕ) (r : Option ℕ) → FindsStream P m r → (r : Option ℕ) × FindsStream P (suc m) r
+  next m (Some s) w = (Some s, record { below = let h = w.below in omega arith; broken = w.broken; kept = w.kept })
+  next m None w =
+      cases (d m) (λ p. (None, λ s h. one_more m s h p w (dec_le m s))) (λ n. (Some m, record { below = omega arith; broken = n; kept = w }))
 
   -- the lowest of m streams, or none
-  abbrev pub lowest_of : (m : ℕ) → (r : FoundStream) × FindsStream P m r
-  lowest_of zero = (FoundStream.Nowhere, λ s h. absurd (omega arith))
+  abbrev pub lowest_of : (m : ℕ) → (r : Option ℕ) × FindsStream P m r
+  lowest_of zero = (None, λ s h. absurd (omega arith))
   lowest_of (suc m) = let w = lowest_of m in next m w.0 w.1
 
 -- Hd is at least 1
@@ -150,26 +149,26 @@ one_fewer i n c e = (omega arith, omega arith)
 -- the first difference of which P holds
 module _ (P : List ℤ → Type 0) (d : (y : List ℤ) → Decided (P y)) (b : Bounds) (w : Spread (box_of b) (box_of (differences b))) where
   -- from place i, with n places left
-  unfoldable walk : (n i : ℕ) → i + n ≡ count_of (box_of (differences b)) → Passed P (box_of (differences b)) i → (r : FoundGap) × FindsGap P (box_of b) r
+  unfoldable walk : (n i : ℕ) → i + n ≡ count_of (box_of (differences b)) → Passed (λ y. P y → ⊥) (box_of (differences b)) i → (r : Option Vector) × FindsGap P (box_of b) r
   unfolding vector differences point_of count_of
-  walk zero i e p = (FoundGap.Nowhere, gap_nowhere P (box_of b) (box_of (differences b)) w i (omega arith) p)
+  walk zero i e p = (None, gap_nowhere P (box_of b) (box_of (differences b)) w i (omega arith) p)
   walk (suc n) i e p =
       let D = box_of (differences b) in
       let k = one_fewer i n (count_of D) e in
-      cases (d (point_of D i)) (λ h. (FoundGap.At (vector (point_of D i)), gap_found P (box_of b) D w i k.0 p (vector (point_of D i)) refl h))
-      (λ h. walk n (i + 1) k.1 (passed_more P D i p h))
+      cases (d (point_of D i)) (λ h. (Some (vector (point_of D i)), gap_found P (box_of b) D w i k.0 p (vector (point_of D i)) refl h))
+      (λ h. walk n (i + 1) k.1 (passed_more (λ y. P y → ⊥) D i p h))
 
   -- from just past 0
-  unfoldable gap_of : (r : FoundGap) × FindsGap P (box_of b) r
+  unfoldable gap_of : (r : Option Vector) × FindsGap P (box_of b) r
   unfolding walk place_of
   gap_of =
       let D = box_of (differences b) in
       let i = place_of D (zeros_of D) + 1 in
-      walk (count_of D - i) i (let k = place_below D (zeros_of D) w.zeros in omega arith) (passed_first P D i refl)
+      walk (count_of D - i) i (let k = place_below D (zeros_of D) w.zeros in omega arith) (passed_first (λ y. P y → ⊥) D i refl)
 
 -- ---- pairs
 -- the pair of a difference is the first of a property that is one of differences
-pub first_at : {P : List ℤ → List ℤ → Type 0} {Q : List ℤ → Type 0} (b : Bounds) → ByGap P (box_of b) Q → (y : Vector) → FindsGap Q (box_of b) (FoundGap.At y) → FirstPair P (start_of (box_of b) (entries y)) (plus_of (start_of (box_of b) (entries y)) (entries y))
+pub first_at : {P : List ℤ → List ℤ → Type 0} {Q : List ℤ → Type 0} (b : Bounds) → ByGap P (box_of b) Q → (y : Vector) → FindsGap Q (box_of b) (Some y) → FirstPair P (start_of (box_of b) (entries y)) (plus_of (start_of (box_of b) (entries y)) (entries y))
 first_at b by y w =
     let x = entries y in
     let i = start_in (box_of b) x (apart_in (box_of b) x w.1) in
@@ -177,13 +176,13 @@ first_at b by y w =
 
 -- ---- the cell rule
 -- what a difference that is found, or none, comes to
-unfoldable crowd_at : (j : Job) (r : FoundGap) → FindsGap (Still j) (box j) r → (c : FoundPair) × FindsPair j c
+unfoldable crowd_at : (j : Job) (r : Option Vector) → FindsGap (Still j) (box j) r → (c : Option Pair) × FindsPair j c
 unfolding pair_at
-crowd_at j (FoundGap.At y) w = (FoundPair.At (pair_at j.bounds (entries y)), first_at j.bounds (cell_by_gap j) y w)
-crowd_at j FoundGap.Nowhere w = (FoundPair.Nowhere, no_pair_there (cell_by_gap j) w)
+crowd_at j (Some y) w = (Some (pair_at j.bounds (entries y)), first_at j.bounds (cell_by_gap j) y w)
+crowd_at j None w = (None, no_pair_there (cell_by_gap j) w)
 
 -- the first pair in one cell at one tick
-unfoldable pub crowd : (j : Job) → Solid (box j) → (c : FoundPair) × FindsPair j c
+unfoldable pub crowd : (j : Job) → Solid (box j) → (c : Option Pair) × FindsPair j c
 unfolding crowd_at gap_of still
 crowd j h = let w = gap_of (Still j) (still j) j.bounds (differences_spread j.bounds h) in crowd_at j w.0 w.1
 
@@ -191,7 +190,7 @@ crowd j h = let w = gap_of (Still j) (still j) j.bounds (differences_spread j.bo
 -- of a moving stream
 module _ (j : Job) (s : ℕ) (moving : Stationary j s → ⊥) where
   -- the first pair meets at the only hops that there are
-  pub first_meeting : (y : Vector) → FindsGap (CollidesBySome j s) (senders j s) (FoundGap.At y) → Collides j s (start_of (box j) (entries y)) (plus_of (start_of (box j) (entries y)) (entries y)) (hops_at j s (entries y))
+  pub first_meeting : (y : Vector) → FindsGap (CollidesBySome j s) (senders j s) (Some y) → Collides j s (start_of (box j) (entries y)) (plus_of (start_of (box j) (entries y)) (entries y)) (hops_at j s (entries y))
   unfolding start_of
   first_meeting y w =
       let x = entries y in
@@ -201,23 +200,23 @@ module _ (j : Job) (s : ℕ) (moving : Stationary j s → ⊥) where
       (subst (λ (z : List ℤ). CollidesBy j s z (hops_at j s x)) (sym (minus_plus p x refl)) m)
 
   -- what a difference that is found, or none, comes to
-  unfoldable jam_at : (r : FoundGap) → FindsGap (CollidesBySome j s) (senders j s) r → (c : FoundCollision) × FindsCollisionOn j s c
+  unfoldable jam_at : (r : Option Vector) → FindsGap (CollidesBySome j s) (senders j s) r → (c : Option Collision) × FindsCollisionOn j s c
   unfolding pair_at hops_at
-  jam_at (FoundGap.At y) w =
-      (FoundCollision.At (record { stream = s; pair = pair_at j.bounds (entries y); hops = hops_at j s (entries y) }), (refl, (first_at j.bounds (link_by_gap j s moving) y w, first_meeting y w)))
-  jam_at FoundGap.Nowhere w = (FoundCollision.Nowhere, λ p q f h. no_pair_there (link_by_gap j s moving) w p q (f, h))
+  jam_at (Some y) w =
+      (Some (record { stream = s; pair = pair_at j.bounds (entries y); hops = hops_at j s (entries y) }), (refl, (first_at j.bounds (link_by_gap j s moving) y w, first_meeting y w)))
+  jam_at None w = (None, λ p q f h. no_pair_there (link_by_gap j s moving) w p q (f, h))
 
 -- the first pair of stream s whose tokens meet
-unfoldable jam : (j : Job) → Solid (box j) → (s : ℕ) → (c : FoundCollision) × FindsCollisionOn j s c
+unfoldable jam : (j : Job) → Solid (box j) → (s : ℕ) → (c : Option Collision) × FindsCollisionOn j s c
 unfolding stationary gap_of meets jam_at
 jam j h s =
-    cases (stationary j s) (λ t. (FoundCollision.Nowhere, λ p q f m. m.moving t))
+    cases (stationary j s) (λ t. (None, λ p q f m. m.moving t))
     (λ moving. let w = gap_of (CollidesBySome j s) (meets j s moving) j.bounds (differences_spread j.bounds h) in jam_at j s moving w.0 w.1)
 
 -- it is decided by the first pair of which some do
-abbrev clear_by : (j : Job) (s : ℕ) (c : FoundCollision) → FindsCollisionOn j s c → Decided (Clear j s)
-clear_by j s (FoundCollision.At c) w = failing (λ n. n (entries c.pair.p) (entries c.pair.q) c.hops (subst (λ (s : ℕ). Collides j s (entries c.pair.p) (entries c.pair.q) c.hops) w.0 w.1.1))
-clear_by j s FoundCollision.Nowhere w = holding w
+abbrev clear_by : (j : Job) (s : ℕ) (c : Option Collision) → FindsCollisionOn j s c → Decided (Clear j s)
+clear_by j s (Some c) w = failing (λ n. n (entries c.pair.p) (entries c.pair.q) c.hops (subst (λ (s : ℕ). Collides j s (entries c.pair.p) (entries c.pair.q) c.hops) w.0 w.1.1))
+clear_by j s None w = holding w
 
 -- searched for
 unfoldable clear : (j : Job) → Solid (box j) → (s : ℕ) → Decided (Clear j s)
@@ -225,17 +224,17 @@ unfolding jam
 clear j h s = let w = jam j h s in clear_by j s w.0 w.1
 
 -- the lowest stream of which some do, with its first pair
-abbrev collision_on : (j : Job) (s : ℕ) → Lowest (Clear j) j.m s → (c : FoundCollision) → FindsCollisionOn j s c → (c : FoundCollision) × FindsCollision j c
-collision_on j s l (FoundCollision.At c) w = (FoundCollision.At c, (subst (Lowest (Clear j) j.m) (sym w.0) l, w.1))
-collision_on j s l FoundCollision.Nowhere w = absurd (l.broken w)
+abbrev collision_on : (j : Job) (s : ℕ) → Lowest (Clear j) j.m s → (c : Option Collision) → FindsCollisionOn j s c → (c : Option Collision) × FindsCollision j c
+collision_on j s l (Some c) w = (Some c, (subst (Lowest (Clear j) j.m) (sym w.0) l, w.1))
+collision_on j s l None w = absurd (l.broken w)
 
 -- or none
-unfoldable jams_at : (j : Job) → Solid (box j) → (r : FoundStream) → FindsStream (Clear j) j.m r → (c : FoundCollision) × FindsCollision j c
+unfoldable jams_at : (j : Job) → Solid (box j) → (r : Option ℕ) → FindsStream (Clear j) j.m r → (c : Option Collision) × FindsCollision j c
 unfolding jam
-jams_at j h (FoundStream.At s) l = let w = jam j h s in collision_on j s l w.0 w.1
-jams_at j h FoundStream.Nowhere w = (FoundCollision.Nowhere, w)
+jams_at j h (Some s) l = let w = jam j h s in collision_on j s l w.0 w.1
+jams_at j h None w = (None, w)
 
 -- the same over all streams
-unfoldable pub first_collision : (j : Job) → Solid (box j) → (c : FoundCollision) × FindsCollision j c
+unfoldable pub first_collision : (j : Job) → Solid (box j) → (c : Option Collision) × FindsCollision j c
 unfolding clear jams_at
 first_collision j h = let w = lowest_of (Clear j) (clear j h) j.m in jams_at j h w.0 w.1

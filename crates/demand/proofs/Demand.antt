@@ -1,7 +1,7 @@
 -- DEMAND 3: on an accepted job the array computes what the loop computes, every value that comes in at a point is the loop's, and each point is worked exactly once.
 use mathlib.Core.Path.{◌≡◌, sym, ap, ◌∙◌}
 use mathlib.Core.List.{List, []}
-use mathlib.Core.Option.{some}
+use Rattle.std.specs.Prelude.{Some}
 use Prim.Native.Nat.{ℕ, ◌*◌, ◌<◌}
 use native.Mathlib.Omega.{arith}
 use lib.ListN.{length}
@@ -59,11 +59,11 @@ module _ (j : Job) (z : Extent) (says : Says j (Accepted z)) where
   demand_3_reached input places values places' values' ran k lk = let h = tick_below j (accepted_limits says) k lk in ran_through j input places values (tick_of j k) (ticks j) places' values' (omega arith) ran
 
   -- each point is worked within the run, in one tick at one cell
-  pub worked_once : (k : ℕ) → k < points j → (tick_of j k < ticks j) × (cell_of j k < cells j) × (point_at j (tick_of j k) (cell_of j k) ≡ some k) × ((t x : ℕ) → point_at j t x ≡ some k → (t ≡ tick_of j k) × (x ≡ cell_of j k))
+  pub worked_once : (k : ℕ) → k < points j → (tick_of j k < ticks j) × (cell_of j k < cells j) × (point_at j (tick_of j k) (cell_of j k) ≡ Some k) × ((t x : ℕ) → point_at j t x ≡ Some k → (t ≡ tick_of j k) × (x ≡ cell_of j k))
   worked_once k lk =
       let h = Core.worked_once (machine j []) (nest j []) (job_mapped j (rules_kept j z says) []) k lk in
       (tick_below j (accepted_limits says) k lk, cell_below j (accepted_limits says) k lk, h.0, h.1)
 
   -- and nothing else is worked
-  pub worked_all : (t x k : ℕ) → point_at j t x ≡ some k → k < points j
+  pub worked_all : (t x k : ℕ) → point_at j t x ≡ Some k → k < points j
   worked_all t x k e = (point_only j t x k e).0

@@ -2,7 +2,7 @@
 use mathlib.Core.Path.{◌≡◌, refl, sym, ap, ap₂, subst, ◌∙◌}
 use mathlib.Core.Logic.{◌⊎◌, inl, inr}
 use mathlib.Core.List.{List}
-use mathlib.Core.Option.{some}
+use Rattle.std.specs.Prelude.{Some}
 use Prim.Native.Nat.{ℕ, zero, suc, ◌+◌, ◌*◌, ◌≤◌, ◌<◌}
 use native.Mathlib.Nat.{mul-le-mul_right}
 use native.Mathlib.Omega.{arith}
@@ -75,7 +75,7 @@ module _ (j : Job) (rules : Obeys j) where
     lane_first p = ap (place_of (rectangle j)) (line_start (S j (point j p)) (hop j s) refl)
 
     -- ---- from p = i - d to i
-    module _ (i p : ℕ) (li : i < points j) (e : previous j s i ≡ some p) where
+    module _ (i p : ℕ) (li : i < points j) (e : previous j s i ≡ Some p) where
       -- the place found is that of a point, and the point there is i - d
       pub previous_below : p < points j
       previous_below = back_below (box j) (along j s) i p e
@@ -112,12 +112,12 @@ module _ (j : Job) (rules : Obeys j) where
           (subst (In (rectangle j)) (sym lane_to) (cell_inside i li))
 
       -- each is one hop behind the next
-      pub lane_behind : (f : ℕ) → f < hops j s → back_of (rectangle j) (hop j s) (lane_of j s p (suc f)) ≡ some (lane_of j s p f)
+      pub lane_behind : (f : ℕ) → f < hops j s → back_of (rectangle j) (hop j s) (lane_of j s p (suc f)) ≡ Some (lane_of j s p f)
       unfolding lane_of
       lane_behind f h =
           let step = line_back (S j (point j p)) (hop j s) f refl in
           back_here (rectangle j) (lane_at j s p (suc f)) (hop j s) (lane_in (suc f) h) (subst (In (rectangle j)) (sym step) (lane_in f (omega arith)))
-          ∙ ap (λ (x : List ℤ). some (place_of (rectangle j) x)) step
+          ∙ ap (λ (x : List ℤ). Some (place_of (rectangle j) x)) step
 
       -- ---- the link rule: no point q works f hops after p where the token of p is then
       module _ (q f : ℕ) (lq : q < points j) (low : 1 ≤ f) (high : f < hops j s) (cell : cell_of j q ≡ lane_of j s p f) (tick : tick_of j q ≡ tick_of j p + f * w j s) where

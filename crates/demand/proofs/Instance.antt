@@ -1,7 +1,7 @@
 -- An accepted job is an instance of the core: its array is a machine, its loop nest a nest, and the four rules give `Laid` and the link rule of straight links.
 use mathlib.Core.Path.{◌≡◌, refl}
 use mathlib.Core.List.{List}
-use mathlib.Core.Option.{none, some}
+use Rattle.std.specs.Prelude.{None, Some}
 use Prim.Native.Nat.{ℕ}
 use Rattle.space.proofs.BackLaws.{back_below}
 use Rattle.job.specs.declared.record.Job.{Job}
@@ -20,10 +20,10 @@ use Rattle.demand.proofs.Geometry.{one_point, lane_of, lane_first, previous_belo
 
 module _ (j : Job) (rules : Obeys j) (input : List ℕ) where
   -- a point with i - d in the box is not fed, and one without is
-  pub own_later : (s k q : ℕ) → previous j s k ≡ some q → given (previous j s k) (some (entry_for j input s k)) (λ q. none) ≡ none
+  pub own_later : (s k q : ℕ) → previous j s k ≡ Some q → given (previous j s k) (Some (entry_for j input s k)) (λ q. None) ≡ None
   own_later s k q e = rw e
 
-  pub own_first : (s k : ℕ) → previous j s k ≡ none → given (previous j s k) (some (entry_for j input s k)) (λ q. none) ≡ some (entry_for j input s k)
+  pub own_first : (s k : ℕ) → previous j s k ≡ None → given (previous j s k) (Some (entry_for j input s k)) (λ q. None) ≡ Some (entry_for j input s k)
   own_first s k e = rw e
 
   -- precedence, hop and cell rule: the job is laid out

@@ -1,7 +1,7 @@
 -- A job in the words of the interface: its array as a machine, its loop nest as a nest.
 use mathlib.Core.Bool.{true}
 use mathlib.Core.List.{List}
-use mathlib.Core.Option.{none, some}
+use Rattle.std.specs.Prelude.{None, Some}
 use Prim.Native.Nat.{ℕ, ◌<◌}
 use Rattle.space.specs.Boxes.{back_of, given}
 use Rattle.job.specs.declared.record.Job.{Job}
@@ -21,8 +21,8 @@ machine j input =
       delay = w j;
       back = λ s x. back_of (rectangle j) (hop j s) x;
       at = point_at j;
-      enter = λ s t x. none;
-      own = λ s k. given (previous j s k) (some (entry_for j input s k)) (λ q. none);
+      enter = λ s t x. None;
+      own = λ s k. given (previous j s k) (Some (entry_for j input s k)) (λ q. None);
       sends = λ s k. true;
       work = λ k f s. work j s f;
       rest = 0;

@@ -2,14 +2,14 @@
 -- S streams, C cells, P points, D values, of any types. Definitions alone.
 use mathlib.Core.Path.{◌≡◌}
 use mathlib.Core.Bool.{Bool, cond}
-use mathlib.Core.Option.{Option, none, some}
+use Rattle.std.specs.Prelude.{Option, None, Some}
 use Prim.Native.Nat.{ℕ, suc, ◌%◌, ◌<◌}
 use Rattle.space.specs.Boxes.{given}
 
 -- what is there, or else b
 abbrev pub else : {A : Type 0} → Option A → A → A
-else none b = b
-else (some a) b = a
+else None b = b
+else (Some a) b = a
 
 -- what an array is built of
 pub record Machine (S C P D : Type 0) : Type 0 where

@@ -1,7 +1,7 @@
 -- A machine M carries out a loop nest N where `Mapped M N` holds: the values that it works out solve the loop's equation, and that has one solution.
 use mathlib.Core.Path.{◌≡◌, refl, sym, ◌∙◌}
 use mathlib.Core.Bool.{true}
-use mathlib.Core.Option.{Option, none, some}
+use Rattle.std.specs.Prelude.{Option, None, Some}
 use Prim.Native.Nat.{ℕ, zero, suc, ◌+◌, ◌*◌, ◌-◌, ◌≤◌, ◌<◌}
 use native.Mathlib.Nat.{add-zero, add-suc}
 use native.Mathlib.Omega.{arith}
@@ -11,34 +11,34 @@ use Rattle.demand.proofs.Ride.{Idle, Way, Linked, ride, ride_on, stored_sent, ar
 
 -- where a point's incoming value comes from: it is fed to the point; or fed to a first cell and then rides n hops; or sent by i - d, and rides n + 1 hops
 pub data Source {S C P D : Type 0} (M : Machine S C P D) (N : Nest S C P D) (s : S) (i : P) : Type 0 where
-  fed : N.previous s i ≡ none → M.own s i ≡ some (N.input s i) → Source M N s i
-  entered : N.previous s i ≡ none → M.own s i ≡ none → (y : ℕ → C) (τ n : ℕ) → Way M s y τ n → (1 ≤ n → Idle M s τ (y 0)) → M.enter s τ (y 0) ≡ some (N.input s i) → y n ≡ N.cell i → τ + n * M.delay s ≡ N.tick i → Source M N s i
-  sent : (p : P) → N.previous s i ≡ some p → M.own s i ≡ none → M.sends s p ≡ true → (y : ℕ → C) (n : ℕ) → Way M s y (N.tick p) (suc n) → y 0 ≡ N.cell p → y (suc n) ≡ N.cell i → N.tick p + suc n * M.delay s ≡ N.tick i → Source M N s i
+  fed : N.previous s i ≡ None → M.own s i ≡ Some (N.input s i) → Source M N s i
+  entered : N.previous s i ≡ None → M.own s i ≡ None → (y : ℕ → C) (τ n : ℕ) → Way M s y τ n → (1 ≤ n → Idle M s τ (y 0)) → M.enter s τ (y 0) ≡ Some (N.input s i) → y n ≡ N.cell i → τ + n * M.delay s ≡ N.tick i → Source M N s i
+  sent : (p : P) → N.previous s i ≡ Some p → M.own s i ≡ None → M.sends s p ≡ true → (y : ℕ → C) (n : ℕ) → Way M s y (N.tick p) (suc n) → y 0 ≡ N.cell p → y (suc n) ≡ N.cell i → N.tick p + suc n * M.delay s ≡ N.tick i → Source M N s i
 
 pub record Mapped {S C P D : Type 0} (M : Machine S C P D) (N : Nest S C P D) : Type 0 where
   pub linked : (s : S) → N.Stream s → Linked M N s
   -- a point is worked in its tick at its cell, and no other point is, nor anything elsewhere
-  pub at_here : (i : P) → N.Point i → M.at (N.tick i) (N.cell i) ≡ some i
-  pub at_only : (t : ℕ) (x : C) (i : P) → M.at t x ≡ some i → N.Point i × (N.cell i ≡ x) × (N.tick i ≡ t)
-  pub previous_point : (s : S) (i p : P) → N.Stream s → N.Point i → N.previous s i ≡ some p → N.Point p
+  pub at_here : (i : P) → N.Point i → M.at (N.tick i) (N.cell i) ≡ Some i
+  pub at_only : (t : ℕ) (x : C) (i : P) → M.at t x ≡ Some i → N.Point i × (N.cell i ≡ x) × (N.tick i ≡ t)
+  pub previous_point : (s : S) (i p : P) → N.Stream s → N.Point i → N.previous s i ≡ Some p → N.Point p
   pub source : (s : S) (i : P) → N.Stream s → N.Point i → Source M N s i
   -- the work looks at the streams alone
   pub same_work : (s : S) (i : P) (f g : S → D) → N.Stream s → ((u : S) → N.Stream u → f u ≡ g u) → M.work i f s ≡ M.work i g s
 
 module _ {S C P D : Type 0} (M : Machine S C P D) (N : Nest S C P D) where
   -- two tables that agree at i - d have the loop take in the same at i
-  taken_same : (L L' : Values S P D) (s : S) (i : P) → ((p : P) → N.previous s i ≡ some p → L s p ≡ L' s p) → taken M N L s i ≡ taken M N L' s i
+  taken_same : (L L' : Values S P D) (s : S) (i : P) → ((p : P) → N.previous s i ≡ Some p → L s p ≡ L' s p) → taken M N L s i ≡ taken M N L' s i
   unfolding taken
   taken_same L L' s i same = by (N.previous s i) same
     where
-      by : (o : Option P) → ((p : P) → o ≡ some p → L s p ≡ L' s p) → given o (N.input s i) (λ p. L s p) ≡ given o (N.input s i) (λ p. L' s p)
-      by none h = refl
-      by (some p) h = h p refl
+      by : (o : Option P) → ((p : P) → o ≡ Some p → L s p ≡ L' s p) → given o (N.input s i) (λ p. L s p) ≡ given o (N.input s i) (λ p. L' s p)
+      by None h = refl
+      by (Some p) h = h p refl
 
 module _ {S C P D : Type 0} (M : Machine S C P D) (N : Nest S C P D) (mapped : Mapped M N) where
   -- ---- one solution
   -- i - d is worked before i
-  pub earlier : (s : S) (i p : P) → N.Stream s → N.Point i → N.previous s i ≡ some p → N.tick p < N.tick i
+  pub earlier : (s : S) (i p : P) → N.Stream s → N.Point i → N.previous s i ≡ Some p → N.tick p < N.tick i
   earlier s i p is pt e = by (mapped.source s i is pt)
     where
       by : Source M N s i → N.tick p < N.tick i
@@ -51,7 +51,7 @@ module _ {S C P D : Type 0} (M : Machine S C P D) (N : Nest S C P D) (mapped : M
           omega arith
 
   -- two tables that solve the equation at the points of Q, where Q holds of i - d with i
-  module _ (Q : P → Type 0) (points : (i : P) → Q i → N.Point i) (down : (s : S) (i p : P) → N.Stream s → Q i → N.previous s i ≡ some p → Q p) (L L' : Values S P D) (solves : Solves M N Q L) (solves' : Solves M N Q L') where
+  module _ (Q : P → Type 0) (points : (i : P) → Q i → N.Point i) (down : (s : S) (i p : P) → N.Stream s → Q i → N.previous s i ≡ Some p → Q p) (L L' : Values S P D) (solves : Solves M N Q L) (solves' : Solves M N Q L') where
     -- up to a tick b
     agree : (b : ℕ) (s : S) (i : P) → N.Stream s → Q i → N.tick i < b → L s i ≡ L' s i
     agree zero s i is q h = absurd (omega arith)
@@ -67,7 +67,7 @@ module _ {S C P D : Type 0} (M : Machine S C P D) (N : Nest S C P D) (mapped : M
 
   -- ---- each point is worked once
   -- in its tick at its cell, and nowhere else
-  pub worked_once : (i : P) → N.Point i → (M.at (N.tick i) (N.cell i) ≡ some i) × ((t : ℕ) (x : C) → M.at t x ≡ some i → (t ≡ N.tick i) × (x ≡ N.cell i))
+  pub worked_once : (i : P) → N.Point i → (M.at (N.tick i) (N.cell i) ≡ Some i) × ((t : ℕ) (x : C) → M.at t x ≡ Some i → (t ≡ N.tick i) × (x ≡ N.cell i))
   worked_once i pt = (mapped.at_here i pt, λ t x e. let h = mapped.at_only t x i e in (sym h.2, sym h.1))
 
   -- ---- what a run works out

@@ -10,25 +10,24 @@ use Rattle.job.specs.Refusals.{First}
 use Rattle.job.specs.Limits.{Acceptable}
 use Rattle.job.proofs.Refusing.{first_unique}
 use Rattle.reader.specs.Reading.{Reads}
-use Rattle.reader.specs.declared.reading.Reading.TheVariants as Read
+use Rattle.std.specs.Prelude.{Result, Ok, Err}
 use Rattle.calls.specs.Bytes.{RunsOf, LoopsOf}
 use Rattle.calls.proofs.BytesLaws.{of_bytes_job}
 use Rattle.job.specs.Record.{points}
 use Rattle.tables.specs.Tables.{Long}
 use Rattle.array.proofs.LoopLaws.{tables_taken}
-use Rattle.array.specs.Loops.{loop_checks, Loops}
-use Rattle.array.specs.declared.loops.LoopReply.{LoopReply}
-use Rattle.array.specs.declared.loops.LoopReply.TheVariants.{Points, Refused}
+use Rattle.array.specs.Loops.{loop_checks, number_of, Loops}
+use Rattle.array.specs.declared.loops.Unlooped.{Unlooped}
+use Rattle.array.proofs.LoopUnique.{some_number}
 use Rattle.verdict.proofs.Accepted.{accepted_limits}
 use Rattle.checks.specs.declared.Work.TheVariants.{Run}
 use Rattle.checks.proofs.ReplyLaws.{passed, answered}
 use Rattle.array.specs.Runs.{Runs}
-use Rattle.checks.specs.declared.RunReply.{RunReply}
-use Rattle.checks.specs.declared.RunReply.TheVariants as Array
+use Rattle.checks.specs.declared.Undone.{Undone}
 use Rattle.demand.proofs.Demand.{demand_3}
 
 -- ---- of a record
-module _ (j : Job) (input values places values' places' : List ℕ) (n : ℕ) (run : Runs j input values places values' places' (Array.Ticks n)) where
+module _ (j : Job) (input values places values' places' : List ℕ) (n : ℕ) (run : Runs j input values places values' places' (Ok n)) where
   -- a run that answers a tick count has passed its checks: its tables are m × points long
   pub sizes : Long j (length input) (length values)
   sizes = (passed Run j _ _ _ (answered run).extent (answered run).lacks.first).0
@@ -43,21 +42,21 @@ module _ (j : Job) (input values places values' places' : List ℕ) (n : ℕ) (r
 
   -- A run that answers a tick count leaves in the value table exactly what the loop on the same job and the same input leaves there, whatever stood in the two tables before;
   -- and the loop then answers the point count.
-  pub run_leaves_loop : (before after : List ℕ) (r : LoopReply) → length before ≡ j.m * points j → Loops j input before after r → (r ≡ Points (points j)) × (values' ≡ after)
-  run_leaves_loop before after (Points c) size loop =
-      (ap Points loop.1, demand_3 j (answered run).extent (answered run).accepted input _ values places' values' after sizes.1 ((answered run).finished refl) loop.2)
-  run_leaves_loop before after (Refused c) size loop = absurd (loop.1 (first_unique (loop_checks j input before) c 0 loop.0 (loop_passes before size)))
+  pub run_leaves_loop : (before after : List ℕ) (r : Result ℕ Unlooped) → length before ≡ j.m * points j → Loops j input before after r → (r ≡ Ok (points j)) × (values' ≡ after)
+  run_leaves_loop before after (Ok c) size loop =
+      (ap Ok loop.1, demand_3 j (answered run).extent (answered run).accepted input _ values places' values' after sizes.1 ((answered run).finished refl) loop.2)
+  run_leaves_loop before after (Err e) size loop = absurd (some_number j e loop.1 (first_unique (loop_checks j input before) (number_of e) 0 loop.0 (loop_passes before size)))
 
 -- ---- of bytes
 module _ (s input values places values' places' : List ℕ) where
   -- a run of bytes that answers a tick count is the run of the job that they are
-  job_ran : (r : RunReply) (n : ℕ) → RunsOf s input values places values' places' r → r ≡ Array.Ticks n → (j : Job) × Reads s (Read.Job j) × Runs j input values places values' places' (Array.Ticks n)
+  job_ran : (r : Result ℕ Undone) (n : ℕ) → RunsOf s input values places values' places' r → r ≡ Ok n → (j : Job) × Reads s (Ok j) × Runs j input values places values' places' (Ok n)
   job_ran r n (inl refused) e = let refusal = refused.2 in let z : ◌≡◌ {A = ℕ} 0 1 = cc in absurd (omega arith)
   job_ran r n (inr ran) e = (ran.0, ran.1, subst (Runs ran.0 input values places values' places') e ran.2)
 
   -- A run of job bytes that answers a tick count leaves in the value table exactly what the loop on the same bytes and the same input leaves there, where its value table is as long as the run's, whatever stood in the two before;
   -- the bytes are a job, and the loop answers its point count.
-  pub run_leaves_loop_bytes : (r : RunReply) (n : ℕ) → RunsOf s input values places values' places' r → r ≡ Array.Ticks n → (before after : List ℕ) (r' : LoopReply) → length before ≡ length values → LoopsOf s input before after r' → (j : Job) × Reads s (Read.Job j) × (r' ≡ Points (points j)) × (values' ≡ after)
+  pub run_leaves_loop_bytes : (r : Result ℕ Undone) (n : ℕ) → RunsOf s input values places values' places' r → r ≡ Ok n → (before after : List ℕ) (r' : Result ℕ Unlooped) → length before ≡ length values → LoopsOf s input before after r' → (j : Job) × Reads s (Ok j) × (r' ≡ Ok (points j)) × (values' ≡ after)
   run_leaves_loop_bytes r n ran e before after r' size loop =
       let h = job_ran r n ran e in
       let j = h.0 in

@@ -1,7 +1,7 @@
 -- A token's ride: over cells of which each is behind the next, with no sender and no feeding on the way, the arrival at the last is what the first stored.
 use mathlib.Core.Path.{◌≡◌, refl, ◌∙◌}
 use mathlib.Core.Bool.{true, false, cond}
-use mathlib.Core.Option.{Option, none, some}
+use Rattle.std.specs.Prelude.{Option, None, Some}
 use Prim.Native.Nat.{ℕ, zero, suc, ◌+◌, ◌*◌, ◌≤◌, ◌<◌}
 use native.Mathlib.Omega.{arith}
 use Rattle.demand.proofs.Machine.{Machine, Nest, Places, link, arrival, fresh, stored, Run}
@@ -11,12 +11,12 @@ use Rattle.demand.proofs.History.{held}
 module _ {S C P D : Type 0} (M : Machine S C P D) where
   -- no point at this cell in this tick stores its new value on s
   abbrev pub Idle : S → ℕ → C → Type 0
-  Idle s t x = (i : P) → M.at t x ≡ some i → M.sends s i ≡ false
+  Idle s t x = (i : P) → M.at t x ≡ Some i → M.sends s i ≡ false
 
   -- n hops over the cells y 0, y 1, .. y n, which stand at cell y f in tick τ + f w
   pub record Way (s : S) (y : ℕ → C) (τ n : ℕ) : Type 0 where
-    pub behind : (f : ℕ) → f < n → M.back s (y (suc f)) ≡ some (y f)
-    pub unfed : (f : ℕ) → f < n → M.enter s (τ + suc f * M.delay s) (y (suc f)) ≡ none
+    pub behind : (f : ℕ) → f < n → M.back s (y (suc f)) ≡ Some (y f)
+    pub unfed : (f : ℕ) → f < n → M.enter s (τ + suc f * M.delay s) (y (suc f)) ≡ None
     pub idle : (f : ℕ) → 1 ≤ f → f < n → Idle s (τ + f * M.delay s) (y f)
 
   -- without its last hop it is a way too
@@ -28,17 +28,17 @@ module _ {S C P D : Type 0} (M : Machine S C P D) where
   unfolding stored
   stored_idle t places s x idle = by (M.at t x) idle
     where
-      by : (o : Option P) → ((i : P) → o ≡ some i → M.sends s i ≡ false) → given o (arrival M t places s x) (λ i. cond (M.sends s i) (fresh M t places s x i) (arrival M t places s x)) ≡ arrival M t places s x
-      by none h = refl
-      by (some i) h = rw (h i refl)
+      by : (o : Option P) → ((i : P) → o ≡ Some i → M.sends s i ≡ false) → given o (arrival M t places s x) (λ i. cond (M.sends s i) (fresh M t places s x i) (arrival M t places s x)) ≡ arrival M t places s x
+      by None h = refl
+      by (Some i) h = rw (h i refl)
 
   -- a cell whose point sends stores the new value
-  pub stored_sent : (t : ℕ) (places : Places S C D) (s : S) (x : C) (i : P) → M.at t x ≡ some i → M.sends s i ≡ true → stored M t places s x ≡ fresh M t places s x i
+  pub stored_sent : (t : ℕ) (places : Places S C D) (s : S) (x : C) (i : P) → M.at t x ≡ Some i → M.sends s i ≡ true → stored M t places s x ≡ fresh M t places s x i
   unfolding stored
   stored_sent t places s x i e h = rw (e, h)
 
   -- where something is fed, it arrives
-  pub arrival_fed : (t : ℕ) (places : Places S C D) (s : S) (x : C) (v : D) → M.enter s t x ≡ some v → arrival M t places s x ≡ v
+  pub arrival_fed : (t : ℕ) (places : Places S C D) (s : S) (x : C) (v : D) → M.enter s t x ≡ Some v → arrival M t places s x ≡ v
   unfolding arrival
   arrival_fed t places s x v e = rw e
 
@@ -46,11 +46,11 @@ module _ {S C P D : Type 0} (M : Machine S C P D) where
 pub record Linked {S C P D : Type 0} (M : Machine S C P D) (N : Nest S C P D) (s : S) : Type 0 where
   pub is : N.Stream s
   pub lasts : 1 ≤ M.delay s
-  pub cells : (x y : C) → M.back s x ≡ some y → N.Cell y
+  pub cells : (x y : C) → M.back s x ≡ Some y → N.Cell y
 
 module _ {S C P D : Type 0} (M : Machine S C P D) (N : Nest S C P D) (R : Run M N) (s : S) (linked : Linked M N s) where
   -- one hop: the arrival is what the cell behind stored w ticks before
-  pub one_hop : (x y : C) (t : ℕ) → t + M.delay s ≤ R.end → M.back s x ≡ some y → M.enter s (t + M.delay s) x ≡ none → arrival M (t + M.delay s) (R.places (t + M.delay s)) s x ≡ stored M t (R.places t) s y
+  pub one_hop : (x y : C) (t : ℕ) → t + M.delay s ≤ R.end → M.back s x ≡ Some y → M.enter s (t + M.delay s) x ≡ None → arrival M (t + M.delay s) (R.places (t + M.delay s)) s x ≡ stored M t (R.places t) s y
   unfolding arrival link
   one_hop x y t le b e = rw (e, b) (held M N R s y linked.is (linked.cells x y b) t linked.lasts le)
 

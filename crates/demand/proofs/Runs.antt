@@ -2,7 +2,7 @@
 use mathlib.Core.Path.{◌≡◌, refl, sym, ap, subst, fun_ext, ◌∙◌}
 use mathlib.Core.Bool.{cond}
 use mathlib.Core.List.{List}
-use mathlib.Core.Option.{Option, none, some}
+use Rattle.std.specs.Prelude.{Option, None, Some}
 use Prim.Native.Nat.{ℕ, zero, suc, ◌<◌, ◌≤◌}
 use native.Mathlib.Decide.{ℕ_discrete}
 use native.Mathlib.Omega.{arith}
@@ -31,8 +31,8 @@ module _ (j : Job) (input : List ℕ) where
   arrival_is t places s x = by (back_of (rectangle j) (hop j s) x) refl
     where
       by : (o : Option ℕ) → back_of (rectangle j) (hop j s) x ≡ o → arrayArrival j t places s x ≡ arrival (machine j input) t (in_place j places) s x
-      by none e = rw e
-      by (some y) e = rw e
+      by None e = rw e
+      by (Some y) e = rw e
 
   -- what comes in at a point
   pub incoming_is : (t : ℕ) (places : List ℕ) (s x k : ℕ) → arrayIncoming j input t places s x k ≡ incoming (machine j input) t (in_place j places) s x k
@@ -40,8 +40,8 @@ module _ (j : Job) (input : List ℕ) where
   incoming_is t places s x k = by (previous j s k) refl
     where
       by : (o : Option ℕ) → previous j s k ≡ o → arrayIncoming j input t places s x k ≡ incoming (machine j input) t (in_place j places) s x k
-      by none e = rw e
-      by (some q) e = rw e (arrival_is t places s x)
+      by None e = rw e
+      by (Some q) e = rw e (arrival_is t places s x)
 
   -- the new value
   fresh_is : (t : ℕ) (places : List ℕ) (s x k : ℕ) → arrayFresh j input t places s x k ≡ fresh (machine j input) t (in_place j places) s x k
@@ -54,8 +54,8 @@ module _ (j : Job) (input : List ℕ) where
   stored_is t places s x = by (point_at j t x) refl
     where
       by : (o : Option ℕ) → point_at j t x ≡ o → arrayStored j input t places s x ≡ stored (machine j input) t (in_place j places) s x
-      by none e = rw e (arrival_is t places s x)
-      by (some k) e = rw e (fresh_is t places s x k)
+      by None e = rw e (arrival_is t places s x)
+      by (Some k) e = rw e (fresh_is t places s x k)
 
   -- so a tick of the array is a tick of the machine
   pub ticked_is : (t : ℕ) (places values places' values' : List ℕ) → ArrayTicked j input t places values places' values' → Ticked (machine j input) (nest j input) t (in_place j places) (entry_for j values) (in_place j places') (entry_for j values')
@@ -127,8 +127,8 @@ module _ (j : Job) (input : List ℕ) where
   taken_is values s k = by (previous j s k)
     where
       by : (o : Option ℕ) → given o (entry_for j input s k) (entry_for j values s) ≡ given o (entry_for j input s k) (λ (q : ℕ). entry_for j values s q)
-      by none = refl
-      by (some q) = refl
+      by None = refl
+      by (Some q) = refl
 
   -- its table solves the equation
   pub loop_solves : (values : List ℕ) → Looped j input values → Solves (machine j input) (nest j input) (λ k. k < points j) (entry_for j values)

@@ -21,7 +21,7 @@ pub fn put_job(buf: &mut [u8], j: Job) -> usize
     put_matrices(buf, matrices, j)
 }
 
-// The header.
+// The header. (Buffer and place are handed on one by one here: the prover follows no buffer that a struct carries by value.)
 fn put_header(buf: &mut [u8], at: usize, j: Job) -> usize
     requires { Acceptable j × Fits buf.old at (header_of 1 j.n j.k j.m) }
     ensures { Put buf.old at (header_of 1 j.n j.k j.m) result buf.new }
@@ -39,7 +39,7 @@ fn put_box(buf: &mut [u8], at: usize, j: Job) -> usize
     let l = vector_bytes(b.low);
     let u = vector_bytes(b.high);
     let sides = [l[0], u[0], l[1], u[1], l[2], u[2], l[3], u[3]];
-    let size = 2 * j.n as usize;
+    let size = 2 * usize::from(j.n);
     buffer::put_bytes(buf, at, &sides[..size])
 }
 
@@ -48,25 +48,21 @@ fn put_streams(buf: &mut [u8], at: usize, j: Job) -> usize
     requires { Acceptable j × Fits buf.old at (streams_bytes 1 j) }
     ensures { Put buf.old at (streams_bytes 1 j) result buf.new }
 {
-    let mut i: u8 = 0;
     let mut next = at;
-    while i < j.m {
+    for i in 0..j.m {
         next = put_stream(buf, next, j.n, job::record::stream_at(j, i));
-        i += 1;
     }
     next
 }
 
-// H, then each row of S.
+// H, then each row of S. (Beside `put_streams`, what is put and how many are others; a closure for it would have to lend the buffer on.)
 fn put_matrices(buf: &mut [u8], at: usize, j: Job) -> usize
     requires { Acceptable j × Fits buf.old at (matrix_bytes 1 j) }
     ensures { Put buf.old at (matrix_bytes 1 j) result buf.new }
 {
-    let mut i: u8 = 0;
     let mut next = at;
-    while i <= j.k {
+    for i in 0..j.k + 1 {
         next = put_vector(buf, next, j.n, job::record::row_at(j, i));
-        i += 1;
     }
     next
 }
@@ -88,7 +84,7 @@ fn put_vector(buf: &mut [u8], at: usize, n: u8, v: Vector) -> usize
     ensures { Put buf.old at (vector_bytes 1 n v) result buf.new }
 {
     let bytes = vector_bytes(v);
-    let size = n as usize;
+    let size = usize::from(n);
     buffer::put_bytes(buf, at, &bytes[..size])
 }
 

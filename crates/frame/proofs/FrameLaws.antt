@@ -1,29 +1,29 @@
--- Laws of the frame: every point has its tick below the tick count and its cell in the rectangle, no two have both the same, the rectangle is small, and a timetable is written tick by tick and in one way.
+-- Laws of the frame: every point has its tick below the tick count and its cell in the rectangle, no two have both the same, the ends of its sides are small, and a timetable is written in one way.
 use mathlib.Core.Path.{◌≡◌, refl, sym, ap, subst, ◌∙◌}
 use mathlib.Core.Logic.{◌⊎◌, inl, inr}
 use mathlib.Core.List.{List}
-use Prim.Native.Nat.{ℕ, ◌+◌, ◌<◌, ◌≤◌}
+use Prim.Native.Nat.{ℕ, ◌<◌, ◌≤◌}
 use native.Mathlib.Decide.{dec_le}
 use native.Mathlib.Omega.{arith}
-use lib.ListN.{length, get_or, set, length-set}
-use lib.Seq.{get_or-set_same, get_or-set_other, ext_get_or}
+use lib.ListN.{length, get_or}
+use lib.Seq.{ext_get_or}
 use lib.IntN.{ℤ, pos, ◌+ℤ◌}
 use lib.Signed.{◌≤ℤ◌}
-use borrow.Author.Count.{below_more}
 use Rattle.space.specs.Numbers.{Size, limit, entry}
 use Rattle.space.specs.Vectors.{entries, dot_of, Sized}
 use Rattle.space.specs.Order.{Before}
-use Rattle.space.specs.Boxes.{In, Solid, place_of, point_of, least_of, greatest_of, Least, Greatest}
-use Rattle.space.proofs.Ints.{size_up}
+use Rattle.space.specs.Boxes.{In, place_of, point_of, least_of, greatest_of, Least, Greatest, Reaches}
+use Rattle.space.specs.declared.boxes.Reach.{Reach}
+use Rattle.space.proofs.Ints.{size_up, ≤ℤ_trans}
 use Rattle.space.proofs.Machine.{held, held_as}
 use Rattle.space.proofs.OrderLaws.{before_total}
-use Rattle.space.proofs.BoxLaws.{SidesSized, in_solid, solid_in, in_length, point_in, place_point, place_injective, place_below, steps_below, steps_back}
+use Rattle.space.proofs.BoxLaws.{solid_in, in_length, point_in, place_point, place_injective, place_below, steps_below, steps_back}
 use Rattle.space.proofs.ExtremeLaws.{least_is, greatest_is}
 use Rattle.space.proofs.VectorLaws.{sized_up, dot_size}
 use Rattle.job.specs.declared.record.Job.{Job}
 use Rattle.job.specs.Limits.{Acceptable}
 use Rattle.job.specs.Record.{box, points}
-use Rattle.job.proofs.Accepting.{solid, row0_sized, row1_sized, in_box_sized}
+use Rattle.job.proofs.Accepting.{solid, in_box_sized}
 use Rattle.verdict.specs.Mapping.{H, S}
 use Rattle.verdict.specs.Rules.{SameCell}
 use Rattle.verdict.specs.Extents.{rectangle, cells, clock, ticks}
@@ -32,9 +32,8 @@ use Rattle.verdict.specs.declared.judge.Extent.{Extent}
 use Rattle.verdict.specs.declared.judge.Verdict.TheVariants.{Accepted}
 use Rattle.verdict.proofs.Accepted.{accepted_ahead, accepted_even, accepted_cells}
 use Rattle.verdict.proofs.SizeLaws.{small_ends}
-use Rattle.bands.specs.Bands.{Flat}
 use Rattle.frame.specs.Frames.{tick_of, cell_of}
-use Rattle.frame.specs.Framing.{Runnable, Framed, Timed}
+use Rattle.frame.specs.Framing.{Runnable, Timed}
 use Rattle.frame.specs.declared.Frame.{Frame}
 
 -- an accepted job may run
@@ -102,42 +101,18 @@ module _ (j : Job) (a : Acceptable j) where
       by (inr (inl e)) = sym (place_point (box j) i li) ∙ ap (place_of (box j)) e ∙ place_point (box j) k lk
       by (inr (inr b)) = absurd (rule (point k) (point i) (record { pair = record { first = inside k lk; second = inside i li; order = b }; time = sym time; place = sym place }))
 
-  -- the rectangle has two ends in each direction
-  rectangle_solid : Solid (rectangle j)
-  rectangle_solid = in_solid (rectangle j) _ (in_rectangle _ (solid_in (box j) (solid j a)))
-
   -- ---- the products of a row with a point are small
   pub product_sized : (h : List ℤ) → length h ≡ 4 → Sized 127 h → (p : List ℤ) → In (box j) p → Size 8376324 (dot_of h p)
   product_sized h e z p i = rw e at (dot_size (sized_up {d = entry} (omega arith) z) (in_box_sized j a i))
 
-  -- and so are the sides of the rectangle
-  rectangle_sized : SidesSized limit (rectangle j)
-  rectangle_sized =
-      let r = small_ends j a (entries j.row0) refl (row0_sized j a) in
-      let q = small_ends j a (entries j.row1) refl (row1_sized j a) in
-      (size_up (omega arith) r.0, size_up (omega arith) r.1, (size_up (omega arith) q.0, size_up (omega arith) q.1, tt))
-
--- the rectangle of a frame is as the bands ask it to be
-pub flat : {f : Frame} → Framed f → Flat f.rectangle
-flat {f} F =
-    let j = f.job in
-    let a = F.runnable.acceptable in
-    let s = subst (SidesSized limit) (sym F.rectangle) (rectangle_sized j a) in
-    record { rows = (s.0, s.1); columns = (s.2.0, s.2.1); solid = subst Solid (sym F.rectangle) (rectangle_solid j a) }
+  -- and so are the ends of its reach, the low one not above the high one: what a rectangle asks of its rows and columns
+  pub ends_fit : (h : List ℤ) → length h ≡ 4 → Sized 127 h → {r : Reach} → Reaches h (box j) r → Size limit (held r.low) × Size limit (held r.high) × (held r.low ≤ℤ held r.high)
+  ends_fit h e z R =
+      let s = small_ends j a h e z in
+      let q = between h e _ (solid_in (box j) (solid j a)) in
+      (fits_limit R.low s.0, fits_limit R.high s.1, rw (held_as R.low s.0 tt, held_as R.high s.1 tt) (≤ℤ_trans q.0 q.1))
 
 -- ---- the timetable
--- it has the ticks of the first n points
-pub record TimedTo (j : Job) (n : ℕ) (timetable : List ℕ) : Type 0 where
-  pub size : points j ≤ length timetable
-  pub ticks : (k : ℕ) → k < n → get_or timetable k 0 ≡ tick_of j k
-
--- one more tick is written
-pub timed_step : {j : Job} {k v : ℕ} {l : List ℕ} → TimedTo j k l → k < points j → v ≡ tick_of j k → TimedTo j (k + 1) (set l k v)
-timed_step {j} {k} {v} {l} T h e = record {
-  size = rw (length-set l k v) T.size;
-  ticks = below_more (λ (i : ℕ). get_or (set l k v) i 0 ≡ tick_of j i) k (λ i li. get_or-set_other l k i v 0 (λ e. omega arith) ∙ T.ticks i li) (get_or-set_same l k v 0 (omega (arith, T.size)) ∙ e);
-}
-
 -- one timetable has every tick, and behind them what it had
 pub timetable_unique : (f : Frame) (before v w : List ℕ) → Timed f v → Timed f w → length v ≡ length before → length w ≡ length before → ((i : ℕ) → points f.job ≤ i → get_or v i 0 ≡ get_or before i 0) → ((i : ℕ) → points f.job ≤ i → get_or w i 0 ≡ get_or before i 0) → v ≡ w
 timetable_unique f before v w p q ev ew rv rw' = ext_get_or 0 v w (ev ∙ sym ew) (λ i h. by i (dec_le (points f.job) i))

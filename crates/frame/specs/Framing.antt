@@ -1,5 +1,5 @@
 -- What the frame of a job holds: its counts, the ends of its rectangle, its bands and its timetable; contracts of functions that serve the array cite these.
-use Rattle.std.specs.Prelude.{◌≡◌, List, [], ◌∷◌, ℕ, ◌<◌, ◌≤◌, length, get_or, ℤ}
+use Rattle.std.specs.Prelude.{◌≡◌, List, ℕ, ◌<◌, ◌≤◌, length, get_or, ℤ, pos}
 use Rattle.space.specs.Vectors.{entries}
 use Rattle.space.specs.Boxes.{point_of}
 use Rattle.job.specs.declared.record.Job.{Job}
@@ -12,7 +12,6 @@ use Rattle.bands.specs.Bands.{rectangle_of, hop_of}
 use Rattle.bands.specs.declared.Band.{Band}
 use Rattle.frame.specs.Frames.{tick_of, cell_of, from}
 use Rattle.frame.specs.declared.Frame.{Frame}
-use Rattle.frame.specs.declared.Bands.{Bands}
 use Rattle.frame.specs.declared.Spot.{Spot}
 
 -- what a job that may run has: it keeps the limits, precedence, hop and cell
@@ -28,10 +27,15 @@ pub record Banded (j : Job) (s : ℕ) (b : Band) : Type 0 where
   pub delay : b.w ≡ w j s
   pub hop : hop_of b ≡ hop j s
 
-abbrev pub band_at : Bands → ℕ → Band
-band_at bands s = get_or (bands.band0 ∷ bands.band1 ∷ bands.band2 ∷ bands.band3 ∷ []) s bands.band0
+-- what stands past the fourth
+abbrev pub no_band : Band
+no_band = record { from = 0; w = 0; hop0 = pos 0; hop1 = pos 0 }
 
-abbrev pub AllBanded : Job → Bands → Type 0
+-- the band of stream s among them
+abbrev pub band_at : List Band → ℕ → Band
+band_at bands s = get_or bands s no_band
+
+abbrev pub AllBanded : Job → List Band → Type 0
 AllBanded j bands = (s : ℕ) → s < j.m → Banded j s (band_at bands s)
 
 -- f holds the numbers of its job's array

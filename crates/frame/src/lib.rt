@@ -14,7 +14,7 @@ use bands::{Band, Rectangle};
 use job::record::Job;
 use space::vector::Vector;
 
-// A job with the numbers of its array: its point count, the clock's low end, how many cells there are.
+// A job with the numbers of its array: its point count, the clock's low end, how many cells there are, the bands of its streams. (There is no meaning in the bands past the last stream's: four with m beside, since there is no heap.) That they are those of its array is said by Framed, in contracts: a ghost field would have to be truncated, and each proof to take it out again.
 #[derive(Clone, Copy)]
 pub struct Frame {
     pub job: Job,
@@ -22,19 +22,10 @@ pub struct Frame {
     pub start: i64,
     pub cells: u64,
     pub rectangle: Rectangle,
-    pub bands: Bands,
+    pub bands: [Band; 4],
 }
 
-// The bands of the streams; there is no meaning in those past the last stream.
-#[derive(Clone, Copy)]
-pub struct Bands {
-    pub band0: Band,
-    pub band1: Band,
-    pub band2: Band,
-    pub band3: Band,
-}
-
-// A point on its way through a tick: its place in box order, and its cell.
+// A point on its way through a tick: its place in box order, and its cell. (That they are its own is a clause, `Stands`: a fact of a frame and a spot.)
 #[derive(Clone, Copy)]
 pub struct Spot {
     pub point: Vector,
@@ -42,7 +33,7 @@ pub struct Spot {
     pub cell: u64,
 }
 
-// The frame of a job.
+// The frame of a job. (The three reaches are those of `extent_of`, which keeps of them only what is counted.)
 pub fn frame_of(j: Job) -> Frame
     requires { Runnable j }
     ensures is { result.job ≡ j }
@@ -99,68 +90,46 @@ pub fn spot_at(f: Frame, k: u64) -> Spot
     }
 }
 
-// As many entries as a job may have points.
+// As many entries as a job may have points. (Fixed memory: there is no heap.)
 pub const TIMETABLE: usize = 1024;
 
-// The tick of every point, in box order.
+// The tick of every point, in box order. (By place and no `iter_mut`: what is promised, `Timed`, is said of each place.)
 pub fn fill_timetable(f: Frame, timetable: &mut [u64])
     requires { Framed f × (points_of f.job ≤ length timetable.old) }
     ensures timed { Timed f timetable.new }
     ensures size { length timetable.new ≡ length timetable.old }
     ensures rest { (i : ℕ) → points_of f.job ≤ i → get_or timetable.new i 0 ≡ get_or timetable.old i 0 }
 {
-    let points = f.points;
     let b = f.job.bounds;
     let mut p = space::boxes::point(b, 0);
-    let mut k: u64 = 0;
-    while k < points {
+    for k in 0..f.points {
         let i = k as usize;
         timetable[i] = tick_at(f, p);
         p = space::boxes::next(b, p);
-        k += 1;
     }
 }
 
 // The band of stream s.
-pub fn band_at(bands: Bands, s: u8) -> Band
+pub fn band_at(bands: [Band; 4], s: u8) -> Band
     requires { s < 4 }
     ensures { result ≡ band_at bands s }
 {
-    match s {
-        0 => bands.band0,
-        1 => bands.band1,
-        2 => bands.band2,
-        _ => bands.band3,
-    }
+    let i = usize::from(s);
+    bands[i]
 }
 
 // The bands of all streams, one behind the other, of so many cells each.
-fn bands_of(j: Job, cells: u64) -> Bands
+fn bands_of(j: Job, cells: u64) -> [Band; 4]
     requires { Runnable j × (cells ≡ cells_of j) }
     ensures { AllBanded j result }
 {
-    let band0 = band_of(j, 0, 0);
-    let band1 = band_after(j, cells, 0, band0);
-    let band2 = band_after(j, cells, 1, band1);
-    let band3 = band_after(j, cells, 2, band2);
-    Bands {
-        band0,
-        band1,
-        band2,
-        band3,
+    let mut last = band_of(j, 0, 0);
+    let mut bands = [last; 4];
+    for s in 1..j.m {
+        last = band_of(j, s, last.from + cells * last.w);
+        bands[usize::from(s)] = last;
     }
-}
-
-// The band behind b, that of stream s; b again where there is no further stream.
-fn band_after(j: Job, cells: u64, s: u8, b: Band) -> Band
-    requires { Runnable j × (cells ≡ cells_of j) × (s < 4) × (s < j.m → Banded j s b) }
-    ensures { s + 1 < j.m → Banded j (s + 1) result }
-{
-    if s + 1 < j.m {
-        band_of(j, s + 1, b.from + cells * b.w)
-    } else {
-        b
-    }
+    bands
 }
 
 // The band of stream s, which begins at a place of the room.
@@ -168,11 +137,10 @@ fn band_of(j: Job, s: u8, from: u64) -> Band
     requires { Runnable j × (s < j.m) × (from ≡ from_of j s) }
     ensures { Banded j s result }
 {
-    let c = verdict::course::course_of(j, s);
-    let unit = c.unit;
+    let unit = verdict::course::course_of(j, s).unit;
     Band {
         from,
-        w: space::divisor::size(unit.x0),
+        w: unit.x0.unsigned_abs(),
         hop0: unit.x1,
         hop1: unit.x2,
     }

@@ -4,29 +4,31 @@
 
 ghost use Rattle.std.specs.Prelude.{◌≡◌, ◌<◌};
 ghost use Rattle.space.specs.Numbers.{Tells};
-ghost use Rattle.job.specs.Refusals.{First};
+ghost use Rattle.job.specs.Refusals.{First, number_in};
 ghost use Rattle.header.specs.Header.{at, pair_at, Counted, Placed, head_checks};
 
-// The number of the first check of the header that the bytes do not pass, 0 for none.
-pub fn number(s: &[u8]) -> u8
-    ensures { First (head_checks s.now) result }
+use job::refusal::Refusal;
+
+// The first check of the header that the bytes do not pass, or none.
+pub fn check(s: &[u8]) -> Result<(), Refusal>
+    ensures { First (head_checks s.now) (number_in result) }
 {
     if s.len() < 16 {
-        return 1;
+        return Err(Refusal::Short);
     }
     if pair(s, 0) != 1 {
-        return 2;
+        return Err(Refusal::Form);
     }
     if !is_counted(s) {
-        return 3;
+        return Err(Refusal::Counts);
     }
     if !is_placed(s) {
-        return 4;
+        return Err(Refusal::Offsets);
     }
     if s.len() != pair(s, 12) {
-        return 5;
+        return Err(Refusal::Length);
     }
-    0
+    Ok(())
 }
 
 // 3: n, k and m are in range, and the zero bytes are zero.
@@ -36,8 +38,7 @@ fn is_counted(s: &[u8]) -> bool
     let n = byte(s, 2);
     let k = byte(s, 3);
     let m = byte(s, 4);
-    (((1 <= n) & (n <= 4)) & ((1 <= k) & (k <= 2)))
-        & (((1 <= m) & (m <= 4)) & ((byte(s, 5) == 0) & (pair(s, 14) == 0)))
+    1 <= n && n <= 4 && 1 <= k && k <= 2 && 1 <= m && m <= 4 && byte(s, 5) == 0 && pair(s, 14) == 0
 }
 
 // 4: the offsets and the total are those of the formulas.
@@ -48,12 +49,13 @@ fn is_placed(s: &[u8]) -> bool
     let n = byte(s, 2);
     let k = byte(s, 3);
     let m = byte(s, 4);
-    ((pair(s, 6) == 16) & (pair(s, 8) == layout::streams_from(n)))
-        & ((pair(s, 10) == layout::matrices_from(n, m))
-            & (pair(s, 12) == layout::total_of(n, k, m)))
+    pair(s, 6) == 16
+        && pair(s, 8) == layout::streams_from(n)
+        && pair(s, 10) == layout::matrices_from(n, m)
+        && pair(s, 12) == layout::total_of(n, k, m)
 }
 
-// The little-endian pair at i.
+// The little-endian pair at i. (A sum and no `from_le_bytes`: a byte past the end is 0.)
 fn pair(s: &[u8], i: usize) -> usize
     requires { i < 16 }
     ensures { result ≡ pair_at s.now i }
@@ -65,5 +67,5 @@ fn pair(s: &[u8], i: usize) -> usize
 pub fn byte(s: &[u8], i: usize) -> usize
     ensures { (result ≡ at s.now i) × (result < 256) }
 {
-    if i < s.len() { layout::wide(s[i]) } else { 0 }
+    if i < s.len() { usize::from(s[i]) } else { 0 }
 }

@@ -7,10 +7,10 @@ use native.Mathlib.Decide.{dec_le}
 use lib.ListN.{length, get_or}
 use lib.IntN.{ℤ, pos}
 use Rattle.space.specs.declared.vector.Vector.{Vector}
-use Rattle.space.specs.Numbers.{Size, coordinate, difference}
+use Rattle.space.specs.Numbers.{Size, coordinate, difference, entry}
 use Rattle.space.specs.Vectors.{entries, Sized}
 use Rattle.space.proofs.VectorLaws.{sized_up}
-use Rattle.space.specs.Boxes.{Solid, box_of, In}
+use Rattle.space.specs.Boxes.{Solid, Within, box_of, In}
 use Rattle.space.proofs.BoxLaws.{inside_sized}
 use Rattle.job.specs.declared.record.Job.{Job}
 use Rattle.job.specs.Record.{FirstsFrom, streams_of, rows_of, no_stream, zero_vector, along}
@@ -72,6 +72,10 @@ module _ (j : Job) (a : Acceptable j) where
   pub in_box_sized : {p : List ℤ} → In (box_of j.bounds) p → Sized coordinate p
   in_box_sized i = inside_sized j.bounds low_sized high_sized i
 
+-- and the reach of a row over its box can be worked out
+pub reachable : (j : Job) {h : List ℤ} → Acceptable j → Sized row_limit h → Within coordinate j.bounds × Sized entry h × Solid (box_of j.bounds)
+reachable j a p = ((low_sized j a, high_sized j a), sized_up (omega arith) p, solid j a)
+
 -- the box of an acceptable job is small enough to walk
-pub walkable : {j : Job} → Acceptable j → Sized difference (entries j.bounds.low) × Sized difference (entries j.bounds.high)
+pub walkable : {j : Job} → Acceptable j → Within difference j.bounds
 walkable {j} a = (sized_up (omega arith) (low_sized j a), sized_up (omega arith) (high_sized j a))

@@ -1,11 +1,15 @@
 -- Laws of checks in order: one number alone is given, it is 0 exactly if all conditions hold and else that of a check, and one list of checks after another.
-use mathlib.Core.Path.{◌≡◌, refl, sym, subst, ◌∙◌}
+use mathlib.Core.Path.{◌≡◌, refl, sym, ap, subst, ◌∙◌}
 use mathlib.Core.Logic.{inl, inr}
+use mathlib.Core.List.{[], ◌∷◌}
 use Prim.Native.Nat.{ℕ}
 use native.Mathlib.Omega.{arith}
-use Rattle.job.specs.Refusals.{Checks, done, check, First, and_then}
+use lib.ListN.{get_or}
+use Rattle.job.specs.Refusals.{Checks, done, check, First, and_then, number_of}
 use Rattle.job.specs.Limits.{limits, Acceptable}
 use Rattle.job.specs.declared.record.Job.{Job}
+use Rattle.job.specs.declared.refusal.Refusal.{Refusal}
+use Rattle.job.specs.declared.refusal.Refusal.TheVariants.{Short, Form, Counts, Offsets, Length, Bounds, Streams, Rows}
 
 pub first_unique : (cs : Checks) (r s : ℕ) → First cs r → First cs s → r ≡ s
 first_unique done r s p q = p ∙ sym q
@@ -83,3 +87,33 @@ pub then_passed : (cs ds : Checks) → First (and_then cs ds) 0 → First cs 0
 then_passed done ds p = refl
 then_passed (check n P rest) ds (inl p) = inl (p.0, then_passed rest ds p.1)
 then_passed (check n P rest) ds (inr p) = inr p
+
+-- ---- refusals and their numbers
+-- the refusals by their numbers, from 1 on
+abbrev refusal_at : ℕ → Refusal
+refusal_at n = get_or (Rows ∷ Short ∷ Form ∷ Counts ∷ Offsets ∷ Length ∷ Bounds ∷ Streams ∷ []) n Rows
+
+numbered_back : (why : Refusal) → refusal_at (number_of why) ≡ why
+numbered_back Short = refl
+numbered_back Form = refl
+numbered_back Counts = refl
+numbered_back Offsets = refl
+numbered_back Length = refl
+numbered_back Bounds = refl
+numbered_back Streams = refl
+numbered_back Rows = refl
+
+-- a number is that of one refusal
+pub number_unique : (why other : Refusal) → number_of why ≡ number_of other → why ≡ other
+number_unique why other e = sym (numbered_back why) ∙ ap refusal_at e ∙ numbered_back other
+
+-- no refusal has the number 0
+pub refuses : (why : Refusal) → number_of why ≡ 0 → ⊥
+refuses Short e = omega arith
+refuses Form e = omega arith
+refuses Counts e = omega arith
+refuses Offsets e = omega arith
+refuses Length e = omega arith
+refuses Bounds e = omega arith
+refuses Streams e = omega arith
+refuses Rows e = omega arith

@@ -1,3 +1,4 @@
 pub mod Refusals
 pub mod Record
 pub mod Limits
+pub mod Numbers

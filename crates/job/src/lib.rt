@@ -6,7 +6,9 @@
 pub mod record;
 // Refusal 3: counts in range, unused places 0.
 pub mod shape;
-// The number of the first limit that a record breaks: 3, 6, 7, 8.
+// Why bytes or a record are refused: 1 to 8.
+pub mod refusal;
+// The first limit that a record breaks: 3, 6, 7, 8.
 pub mod limits;
 // Replies in numbers.
 pub mod numbers;

@@ -5,7 +5,7 @@ ghost use Rattle.job.specs.Record.{streams_of, rows_of, no_stream, zero_vector};
 use space::boxes::Bounds;
 use space::vector::Vector;
 
-// A stream: its vector d, its kind, its rule and the rule's two sources.
+// A stream: its vector d, its kind, its rule and the rule's two sources. (Kind and rule are numbers: a record may hold kind 2 and rule 3, so that refusal 7 can be the reply.)
 #[derive(Clone, Copy)]
 pub struct Stream {
     pub d: Vector,
@@ -15,7 +15,8 @@ pub struct Stream {
     pub b: u8,
 }
 
-// A job: the counts n, k, m, the box, four streams, the time row and two place rows, zero in every unused place. Entries are wider than a file's, so that one beyond the limits can be held and refused.
+// A job: the counts n, k, m, the box, four streams, the time row and two place rows, zero in every unused place. Entries are wider than a file's, so that one beyond the limits can be held and refused. (Four streams with m beside: a refusal of its own, 3, is that an unused place is not 0.)
+// That a job is within the limits is a clause, `Acceptable`, and no ghost field of a type: such a field has to be a proposition, and this fact goes by cases, so that the check refuses it. That a stream's number is below m is one too: a type of such numbers would not know the job.
 #[derive(Clone, Copy)]
 pub struct Job {
     pub n: u8,

@@ -2,16 +2,12 @@
 use mathlib.Core.Path.{◌≡◌, refl, ap}
 use Prim.Native.Nat.{ℕ, ◌-◌, ◌<◌, ◌≤◌}
 use native.Mathlib.Omega.{arith}
-use lib.IntN.{ℤ, pos, negsuc, nat_abs, ◌+ℤ◌, ◌-ℤ◌}
-use lib.Signed.{◌≤ℤ◌, ◌<ℤ◌}
+use lib.IntN.{ℤ, pos, negsuc, ◌-ℤ◌}
 use Rattle.space.specs.declared.vector.Vector.{Vector}
 use Rattle.space.specs.Numbers.{Size}
 use Rattle.space.specs.Vectors.{entries, Sized}
-use Rattle.space.proofs.Parts.{int, sum, difference, magnitude}
+use Rattle.space.proofs.Parts.{int, difference, magnitude}
 use Rattle.layout.specs.Layout.{complement, InByte, InBytes}
-
-pub in_size : {z : ℤ} → InByte z → Size 128 z
-in_size {z} h = record { size = omega (int, magnitude z) }
 
 -- an entry of at most 127 in size
 size_held : {b : ℕ} {z : ℤ} → b ≤ 127 → Size b z → InByte z
@@ -24,15 +20,6 @@ sized_held h p = record { x0 = size_held h p.each.0; x1 = size_held h p.each.1.0
 pub below_256 : (z : ℤ) → InByte z → complement 1 z < 256
 below_256 (pos n) h = omega int
 below_256 (negsuc n) h = omega int
-
--- the byte of an entry, as the code works it out
-pub byte_negative : (z : ℤ) → InByte z → z <ℤ pos 0 → nat_abs (z +ℤ pos 256) ≡ complement 1 z
-byte_negative (pos n) h k = absurd (omega int)
-byte_negative (negsuc n) h k = omega (int, sum (negsuc n) (pos 256), magnitude (negsuc n +ℤ pos 256))
-
-pub byte_positive : (z : ℤ) → pos 0 ≤ℤ z → nat_abs z ≡ complement 1 z
-byte_positive (pos n) k = refl
-byte_positive (negsuc n) k = absurd (omega int)
 
 -- the entry of a byte
 pub entry_low : (b : ℕ) → b < 128 → InByte (pos b) × (complement 1 (pos b) ≡ b)

@@ -2,14 +2,14 @@
 
 #![tactic(auto)]
 
-ghost use Rattle.std.specs.Prelude.{◌≡◌, ◌≤◌, ◌<◌};
+ghost use Rattle.std.specs.Prelude.{◌≡◌, ◌≤◌};
 ghost use Rattle.layout.specs.Layout.{InByte, complement, streams_from, matrices_from, total_of, header_of};
 
 // The signed entry that a byte holds, in two's complement.
 pub fn entry_of(b: u8) -> i64
     ensures { InByte result × (complement 1 result ≡ b) }
 {
-    if b < 128 { b as i64 } else { b as i64 - 256 }
+    i64::from(b.cast_signed())
 }
 
 // The byte that holds an entry.
@@ -17,10 +17,10 @@ pub fn byte_of(z: i64) -> u8
     requires { InByte z }
     ensures { result ≡ complement 1 z }
 {
-    if z < 0 { (z + 256) as u8 } else { z as u8 }
+    (z as i8).cast_unsigned()
 }
 
-// The offset of the streams.
+// The offset of the streams. (n, k and m are asked one by one: a type of all three would ask of each function here more than it reads.)
 pub fn streams_from(n: usize) -> usize
     requires { n ≤ 4 }
     ensures { result ≡ streams_from 1 n }
@@ -44,21 +44,15 @@ pub fn total_of(n: usize, k: usize, m: usize) -> usize
     matrices_from(n, m) + (1 + k) * n
 }
 
-// A byte as a length.
-pub fn wide(x: u8) -> usize
-    ensures { (result ≡ x) × (result < 256) }
-{
-    x as usize
-}
-
 // The header.
 pub fn header_of(n: u8, k: u8, m: u8) -> [u8; 16]
     requires { (n ≤ 4) × (k ≤ 2) × (m ≤ 4) }
     ensures { result ≡ header_of 1 n k m }
 {
-    let streams = streams_from(wide(n));
-    let matrices = matrices_from(wide(n), wide(m));
-    let total = total_of(wide(n), wide(k), wide(m));
+    let dimensions = usize::from(n);
+    let streams = (streams_from(dimensions) as u16).to_le_bytes();
+    let matrices = (matrices_from(dimensions, usize::from(m)) as u16).to_le_bytes();
+    let total = (total_of(dimensions, usize::from(k), usize::from(m)) as u16).to_le_bytes();
     [
         1,
         0,
@@ -68,12 +62,12 @@ pub fn header_of(n: u8, k: u8, m: u8) -> [u8; 16]
         0,
         16,
         0,
-        (streams % 256) as u8,
-        (streams / 256 % 256) as u8,
-        (matrices % 256) as u8,
-        (matrices / 256 % 256) as u8,
-        (total % 256) as u8,
-        (total / 256 % 256) as u8,
+        streams[0],
+        streams[1],
+        matrices[0],
+        matrices[1],
+        total[0],
+        total[1],
         0,
         0,
     ]

@@ -18,26 +18,20 @@ pub struct Said {
     pub verdict: Verdict,
 }
 
-// Coordinate number k, where n are shown.
-fn put_coordinate(out: &mut [u8], at: usize, n: u8, k: u8, w: Word, x: i64) -> usize
-    requires { Fits out.old at (fields_bytes (coordinates w (take (n - k) (x ∷ [])))) }
-    ensures { Put out.old at (fields_bytes (coordinates w (take (n - k) (x ∷ [])))) result out.new }
-{
-    if n <= k {
-        return at;
-    }
-    print::field::put_field(out, at, w, Number::Signed(x))
-}
-
 // The first n coordinates of a point, after the word w and separated by a blank.
 fn put_point(out: &mut [u8], at: usize, n: u8, w: Word, p: Vector) -> usize
     requires { Fits out.old at (fields_bytes (coordinates w (take n (entries p)))) }
     ensures { Put out.old at (fields_bytes (coordinates w (take n (entries p)))) result out.new }
 {
-    let i = put_coordinate(out, at, n, 0, w, p.x0);
-    let j = put_coordinate(out, i, n, 1, Word::Blank, p.x1);
-    let k = put_coordinate(out, j, n, 2, Word::Blank, p.x2);
-    put_coordinate(out, k, n, 3, Word::Blank, p.x3)
+    let all = [p.x0, p.x1, p.x2, p.x3];
+    let shown = &all[..usize::from(n).min(4)];
+    let mut next = at;
+    let mut before = w;
+    for x in shown {
+        next = print::field::put_field(out, next, before, Number::Signed(*x));
+        before = Word::Blank;
+    }
+    next
 }
 
 // Two points.
@@ -65,7 +59,7 @@ fn put_stream(out: &mut [u8], at: usize, stream: u8) -> usize
     requires { Fits out.old at (fields_bytes (stream_fields stream)) }
     ensures { Put out.old at (fields_bytes (stream_fields stream)) result out.new }
 {
-    print::field::put_field(out, at, Word::Stream, Number::Count(stream as u64))
+    print::field::put_field(out, at, Word::Stream, Number::Count(u64::from(stream)))
 }
 
 // Two tokens that meet.
@@ -96,7 +90,7 @@ pub fn put_fields(out: &mut [u8], at: usize, said: Said) -> usize
     }
 }
 
-// The same by a writer that holds its buffer, which is handed on.
+// The same by a writer that holds its buffer, which is handed on. (By value beside `add_fields`: the pages name both.)
 pub fn fields<'a>(l: Line<'a>, said: Said) -> Line<'a>
     requires { Fits l.out.now l.at (fields_bytes (besides said.n said.verdict)) }
     ensures { result ≡ wrote l.entry (fields_bytes (besides said.n said.verdict)) }

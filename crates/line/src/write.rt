@@ -15,7 +15,7 @@ use verdict::judge::Verdict;
 // No line is longer, each number counted at 21 bytes.
 pub const LONGEST: usize = 269;
 
-// Writes the line of a verdict on a job of n dimensions, closed by a newline, to the front of a buffer, and says how long it is. A buffer that the longest line does not fit into stays as it was.
+// Writes the line of a verdict on a job of n dimensions, closed by a newline, to the front of a buffer, and says how long it is. A buffer that the longest line does not fit into stays as it was, and the answer is 0. (No Option: C gets the length.)
 pub fn write_line(out: &mut [u8], n: u8, v: Verdict) -> usize
     ensures writes { Writes out.old (line_of n v) result out.new }
     ensures inside { result ≤ length out.new }
@@ -23,7 +23,7 @@ pub fn write_line(out: &mut [u8], n: u8, v: Verdict) -> usize
     if out.len() < LONGEST {
         return 0;
     }
-    put_line(out, lead_of(v), first_of(v), Said { n: n, verdict: v })
+    put_line(out, lead_of(v), first_of(v), Said { n, verdict: v })
 }
 
 // The word that the line of a verdict starts with.
@@ -44,7 +44,7 @@ fn first_of(v: Verdict) -> Number
     if let Verdict::Accepted(extent) = v {
         Number::Count(extent.cells)
     } else {
-        Number::Count(verdict::numbers::in_numbers(v).number as u64)
+        Number::Count(u64::from(verdict::numbers::in_numbers(v).number))
     }
 }
 

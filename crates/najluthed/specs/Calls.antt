@@ -1,18 +1,17 @@
 -- What the C library answers in numbers: those of the replies on bytes, in C's types. 'gets number, stream and f; the number is 0 for accepted, and stream and f are 0 where the table lists none'. (REFERENCE 7.2)
-use Rattle.std.specs.Prelude.{◌≡◌, List, ℕ}
+use Rattle.std.specs.Prelude.{◌≡◌, List, ℕ, Option, Result}
+use Rattle.space.specs.declared.vector.Vector.{Vector}
 use Rattle.job.specs.declared.numbers.Counted.{Counted}
 use Rattle.verdict.specs.Verdicts.{in_numbers}
 use Rattle.verdict.specs.Rooms.{counted_of as room_counted}
 use Rattle.verdict.specs.declared.judge.Verdict.{Verdict}
 use Rattle.verdict.specs.declared.numbers.InNumbers.{InNumbers}
-use Rattle.verdict.specs.declared.room.Room.{Room}
 use Rattle.checks.specs.Replies.{counted_of as run_counted}
-use Rattle.checks.specs.declared.RunReply.{RunReply}
+use Rattle.checks.specs.declared.Undone.{Undone}
 use Rattle.checks.specs.declared.Work.{Work}
 use Rattle.array.specs.Loops.{counted_of as loop_counted}
-use Rattle.array.specs.declared.loops.LoopReply.{LoopReply}
+use Rattle.array.specs.declared.loops.Unlooped.{Unlooped}
 use Rattle.array.specs.Lookups.{looked_of}
-use Rattle.array.specs.declared.lookup.Lookup.{Lookup}
 use Rattle.array.specs.declared.lookup.Looked.{Looked}
 use Rattle.calls.specs.Bytes.{SaysOf, CountsOf, MeasuresOf, DoesOf, LoopsOf, LooksOf}
 use Rattle.calls.specs.declared.Measures.{Measures}
@@ -42,13 +41,13 @@ abbrev pub AnswersSizes : List ℕ → Sizes → Type 0
 AnswersSizes s a = (m : Measures) × MeasuresOf s m × (a ≡ sizes m)
 
 abbrev pub AnswersRoom : List ℕ → Done → Type 0
-AnswersRoom s a = (r : Room) × CountsOf s r × (a ≡ done (room_counted r))
+AnswersRoom s a = (r : Result ℕ Verdict) × CountsOf s r × (a ≡ done (room_counted r))
 
 abbrev pub AnswersWork : Work → List ℕ → List ℕ → List ℕ → List ℕ → List ℕ → List ℕ → Done → Type 0
-AnswersWork work s input values places values' places' a = (r : RunReply) × DoesOf work s input values places values' places' r × (a ≡ done (run_counted r))
+AnswersWork work s input values places values' places' a = (r : Result ℕ Undone) × DoesOf work s input values places values' places' r × (a ≡ done (run_counted r))
 
 abbrev pub AnswersLoop : List ℕ → List ℕ → List ℕ → List ℕ → Done → Type 0
-AnswersLoop s input before after a = (r : LoopReply) × LoopsOf s input before after r × (a ≡ done (loop_counted r))
+AnswersLoop s input before after a = (r : Result ℕ Unlooped) × LoopsOf s input before after r × (a ≡ done (loop_counted r))
 
 abbrev pub AnswersPoint : List ℕ → ℕ → ℕ → PointReply → Type 0
-AnswersPoint s t x a = (r : Lookup) × LooksOf s t x r × (a ≡ point (looked_of r))
+AnswersPoint s t x a = (r : Result (Option Vector) Verdict) × LooksOf s t x r × (a ≡ point (looked_of r))

@@ -8,7 +8,7 @@ ghost use Rattle.najluthed.specs.Calls.{done, point, AnswersVerdict, AnswersSize
 
 use array::lookup::Looked;
 use checks::Work;
-use job::numbers::Counted;
+use job::numbers::{Counted, numbered};
 
 // The number of refusal, 0 for accepted; stream and hops are 0 where the table lists none.
 #[repr(C)]
@@ -40,7 +40,7 @@ pub struct Sizes {
     pub room: u64,
 }
 
-// The number of refusal, 0 for none; whether there is a point, 1 or 0; and its coordinates, 0 where there is none.
+// The number of refusal, 0 for none; whether there is a point, 1 or 0; and its coordinates, 0 where there is none. (A flag and a number, since C has no Option.)
 #[repr(C)]
 #[derive(Clone, Copy)]
 pub struct PointReply {
@@ -60,8 +60,8 @@ pub extern "C" fn najluthed_verdict(job: &[u8]) -> Judged
     let told = verdict::numbers::in_numbers(calls::verdict_of_bytes(job));
     let hops = told.hops;
     Judged {
-        number: wide(told.number),
-        stream: wide(told.stream),
+        number: u32::from(told.number),
+        stream: u32::from(told.stream),
         hops,
     }
 }
@@ -74,9 +74,9 @@ pub extern "C" fn najluthed_sizes(job: &[u8]) -> Sizes
     let measures = calls::measures_of_bytes(job);
     let extent = measures.extent;
     Sizes {
-        number: wide(measures.number),
-        dimensions: wide(measures.dimensions),
-        streams: wide(measures.streams),
+        number: u32::from(measures.number),
+        dimensions: u32::from(measures.dimensions),
+        streams: u32::from(measures.streams),
         points: measures.points,
         cells: extent.cells,
         ticks: extent.ticks,
@@ -90,7 +90,7 @@ pub extern "C" fn najluthed_line(job: &[u8], out: &mut [u8]) -> usize
     ensures writes { WritesOf job.now out.old result out.new }
     ensures inside { result ≤ length out.new }
 {
-    calls::line_of_bytes(&mut out[..], job)
+    calls::line_of_bytes(out, job)
 }
 
 // The room count, R.
@@ -98,7 +98,7 @@ pub extern "C" fn najluthed_line(job: &[u8], out: &mut [u8]) -> usize
 pub extern "C" fn najluthed_room(job: &[u8]) -> Done
     ensures { AnswersRoom job.now result }
 {
-    done_of(verdict::room::counted(calls::room_of_bytes(job)))
+    Done::from(numbered(calls::room_of_bytes(job)))
 }
 
 // A run: the tick count, or R for 14 and 15.
@@ -111,8 +111,7 @@ pub extern "C" fn najluthed_run(
 ) -> Done
     ensures { AnswersWork Work.Run job.now input.now values.old places.old values.new places.new result }
 {
-    let r = calls::run_of_bytes(job, input, &mut values[..], &mut places[..]);
-    done_of(checks::counted(r))
+    Done::from(numbered(calls::run_of_bytes(job, input, values, places)))
 }
 
 // A single tick, from the lent places as they are: the tick count, or R for 14 and 15.
@@ -126,8 +125,7 @@ pub extern "C" fn najluthed_tick(
 ) -> Done
     ensures { AnswersWork (Work.Tick tick) job.now input.now values.old places.old values.new places.new result }
 {
-    let r = calls::tick_of_bytes(job, tick, input, &mut values[..], &mut places[..]);
-    done_of(checks::counted(r))
+    Done::from(numbered(calls::tick_of_bytes(job, tick, input, values, places)))
 }
 
 // The loop: the point count.
@@ -135,8 +133,7 @@ pub extern "C" fn najluthed_tick(
 pub extern "C" fn najluthed_loop(job: &[u8], input: &[u32], values: &mut [u32]) -> Done
     ensures { AnswersLoop job.now input.now values.old values.new result }
 {
-    let r = calls::loop_of_bytes(job, input, &mut values[..]);
-    done_of(array::loops::counted(r))
+    Done::from(numbered(calls::loop_of_bytes(job, input, values)))
 }
 
 // The point worked in a tick at a cell.
@@ -144,37 +141,34 @@ pub extern "C" fn najluthed_loop(job: &[u8], input: &[u32], values: &mut [u32]) 
 pub extern "C" fn najluthed_point(job: &[u8], tick: u64, cell: u64) -> PointReply
     ensures { AnswersPoint job.now tick cell result }
 {
-    point_of(array::lookup::in_numbers(calls::point_at_bytes(job, tick, cell)))
+    PointReply::from(array::lookup::in_numbers(calls::point_at_bytes(job, tick, cell)))
 }
 
 // A number and a count, for C.
-fn done_of(c: Counted) -> Done
-    ensures { result ≡ done c }
-{
-    Done {
-        number: wide(c.number),
-        count: c.count,
+impl From<Counted> for Done {
+    ghost from_gives = { λ c d. d ≡ done c };
+
+    fn from(c: Counted) -> Done {
+        Done {
+            number: u32::from(c.number),
+            count: c.count,
+        }
     }
 }
 
 // What a look-up found, for C.
-fn point_of(l: Looked) -> PointReply
-    ensures { result ≡ point l }
-{
-    let p = l.point;
-    PointReply {
-        number: wide(l.number),
-        found: wide(l.found),
-        x0: p.x0,
-        x1: p.x1,
-        x2: p.x2,
-        x3: p.x3,
-    }
-}
+impl From<Looked> for PointReply {
+    ghost from_gives = { λ l p. p ≡ point l };
 
-// A byte as a number of C's.
-fn wide(x: u8) -> u32
-    ensures { result ≡ x }
-{
-    x as u32
+    fn from(l: Looked) -> PointReply {
+        let p = l.point;
+        PointReply {
+            number: u32::from(l.number),
+            found: u32::from(l.found),
+            x0: p.x0,
+            x1: p.x1,
+            x2: p.x2,
+            x3: p.x3,
+        }
+    }
 }

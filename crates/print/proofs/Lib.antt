@@ -1,3 +1,2 @@
 pub mod Numerals
-pub mod Cutting
 pub mod Writing

@@ -20,10 +20,10 @@ pub fn begin<'a>(out: &'a mut [u8], at: usize) -> Line<'a>
     ensures begun { (result.out ≡ out.entry) × (result.at ≡ at) }
     ensures same_reference { result.out.ghost_name ≡ out.entry.ghost_name }
 {
-    Line { out: out, at: at }
+    Line { out, at }
 }
 
-// Puts a word, and the writer is handed on.
+// Puts a word, and the writer is handed on. (By value beside `add_word`, and so `number` beside `add_number`: the pages name all four.)
 pub fn word<'a>(l: Line<'a>, w: Word) -> Line<'a>
     requires { Fits l.out.now l.at (word_bytes w) }
     ensures { result ≡ wrote l.entry (word_bytes w) }

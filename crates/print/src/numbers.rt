@@ -12,7 +12,7 @@ pub enum Number {
     Signed(i64),
 }
 
-// The digits of n, at most f of them.
+// The digits of n, at most f of them. (By hand and not by `write!`: the promise names the bytes, and the buffer is lent.)
 fn put_digits(out: &mut [u8], at: usize, f: usize, n: u64) -> usize
     requires { Fits out.old at (digits f n) }
     ensures { Put out.old at (digits f n) result out.new }
@@ -35,7 +35,7 @@ fn put_signed(out: &mut [u8], at: usize, x: i64) -> usize
     requires { Fits out.old at (decimal x) }
     ensures { Put out.old at (decimal x) result out.new }
 {
-    let size = space::divisor::size(x);
+    let size = x.unsigned_abs();
     if x < 0 {
         let next = buffer::put_bytes(out, at, b"-");
         return put_digits(out, next, DIGITS, size);

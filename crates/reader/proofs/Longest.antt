@@ -2,20 +2,20 @@
 use mathlib.Core.Path.{◌≡◌, sym, ap, ap₂, subst, ◌∙◌}
 use mathlib.Core.Logic.{inl, inr}
 use mathlib.Core.List.{List}
+use Rattle.std.specs.Prelude.{Result, Ok, Err}
 use Prim.Native.Nat.{ℕ, ◌+◌, ◌*◌, ◌<◌, ◌≤◌}
 use native.Mathlib.Omega.{arith}
 use lib.ListN.{length, take}
 use lib.Seq.{get_or-take, length-take-le}
 use Rattle.job.specs.declared.record.Job.{Job}
-use Rattle.job.specs.Refusals.{First}
+use Rattle.job.specs.declared.refusal.Refusal.{Refusal}
+use Rattle.job.specs.Refusals.{First, number_of}
 use Rattle.job.specs.Limits.{Shaped}
 use Rattle.layout.specs.Layout.{file_of}
 use Rattle.layout.proofs.Injective.{file_length}
 use Rattle.layout.proofs.Totals.{total_small}
 use Rattle.header.specs.Header.{at, pair_at, Counted, Placed}
 use Rattle.reader.specs.Reading.{file_checks, Reads}
-use Rattle.reader.specs.declared.reading.Reading.{Reading}
-use Rattle.reader.specs.declared.reading.Reading.TheVariants as R
 
 -- ---- the longest job
 pub longest : (j : Job) → Shaped j → length (file_of j) ≤ 68
@@ -80,6 +80,6 @@ module _ (s : List ℕ) (long : 69 ≤ length s) where
   front_first r (inl (a, inl (b, inl (c, inl (p, inl h))))) = absurd (too_many c p h.0)
 
   -- the reply is that of the first 69 bytes
-  pub front_suffices : (r : Reading) → Reads s r → Reads front r
-  front_suffices (R.Job j) h = let l = longest j h.0.shaped in absurd (omega (arith, ap length h.1))
-  front_suffices (R.Refused r) h = (front_first r h.0, h.1)
+  pub front_suffices : (r : Result Job Refusal) → Reads s r → Reads front r
+  front_suffices (Ok j) h = let l = longest j h.0.shaped in absurd (omega (arith, ap length h.1))
+  front_suffices (Err r) h = front_first (number_of r) h

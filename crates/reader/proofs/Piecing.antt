@@ -5,28 +5,23 @@ use Prim.Native.Nat.{ℕ, suc, ◌+◌, ◌*◌, ◌%◌, ◌≤◌, ◌<◌}
 use native.Mathlib.Nat.{mul-one}
 use native.Mathlib.Omega.{arith}
 use lib.IntN.{ℤ, pos}
-use lib.ListN.{length, take, drop, length-drop, take-append-drop, get_or-eq_default}
-use lib.Seq.{take_all, length-take-le}
+use lib.ListN.{length, take, get_or-eq_default}
+use lib.Seq.{take_all}
 use Rattle.space.specs.declared.vector.Vector.{Vector}
 use Rattle.space.specs.declared.boxes.Bounds.{Bounds}
 use Rattle.space.specs.Vectors.{entries}
 use Rattle.space.specs.Boxes.{box_of}
 use Rattle.space.proofs.Parts.{int}
-use Rattle.job.specs.Record.{zero_vector}
 use Rattle.job.specs.Limits.{Unused}
 use Rattle.layout.specs.Layout.{complement, entry_bytes, InByte, InBytes, side_bytes}
 use Rattle.layout.proofs.Entries.{below_256, byte_injective}
 use Rattle.header.specs.Header.{at}
-use Rattle.reader.specs.Pieces.{part, EntryAt, EntriesAt, VectorIn, BoxIn, StreamIn}
-use Rattle.reader.proofs.Places.{bytes_at, part_bytes, joined_parts}
+use Rattle.reader.specs.Pieces.{part, EntryAt, EntriesAt, VectorIn, BoxIn}
+use Rattle.reader.proofs.Places.{part_bytes, joined_parts}
 
 -- 0 is held in a byte
 pub zero_held : InByte (pos 0)
 zero_held = record { low = omega int; high = omega int }
-
--- and so is a vector of zeros
-pub zeros_held : InBytes zero_vector
-zeros_held = record { x0 = zero_held; x1 = zero_held; x2 = zero_held; x3 = zero_held }
 
 module _ {l : List ℕ} {i : ℕ} {z : ℤ} (e : EntryAt l i z) where
   -- the entry's byte
@@ -80,22 +75,3 @@ module _ (l : List ℕ) (b : Bounds) (n : ℕ) (most : n ≤ 4) (size : length l
     );
     held = (entries_held d, entries_held e);
   }
-
--- a vector read from the first n bytes
-pub vector_front : (l : List ℕ) (n : ℕ) (v : Vector) → n ≤ length l → VectorIn (length (take n l)) (take n l) v → VectorIn n (take n l) v
-vector_front l n v h e = rw (length-take-le n l h) at e
-
--- a stream: its vector, then four bytes
-pub stream_in : (l : List ℕ) (n : ℕ) (v : Vector) → length l ≡ n + 4 → VectorIn (length (take n l)) (take n l) v → StreamIn n l (record { d = v; kind = at l n; rule = at l (n + 1); a = at l (n + 2); b = at l (n + 3) })
-stream_in l n v size e =
-    let f = vector_front l n v (omega arith) e in
-    record { bytes = ap₂ ◌++◌ f.bytes (last l n size) ∙ take-append-drop n l; unused = f.unused; held = f.held }
-  where
-    last : (l : List ℕ) (n : ℕ) → length l ≡ n + 4 → at l n ∷ at l (n + 1) ∷ at l (n + 2) ∷ at l (n + 3) ∷ [] ≡ drop n l
-    last l n size =
-        let p : part l n 4 ≡ bytes_at l n 4 = part_bytes l n 4 (omega arith) in
-        let q : length (drop n l) ≤ 4 = rw length-drop (omega arith) in
-        let b : suc n ≡ n + 1 = omega arith in
-        let c : suc (suc n) ≡ n + 2 = omega arith in
-        let d : suc (suc (suc n)) ≡ n + 3 = omega arith in
-        rw (← b, ← c, ← d) (sym p ∙ take_all 4 (drop n l) q)

@@ -1,6 +1,7 @@
 -- Bytes have one reply: the file of an acceptable job passes every check, and no other job has it.
 use mathlib.Core.Path.{◌≡◌, refl, sym, ap, subst, ◌∙◌}
 use mathlib.Core.List.{List}
+use Rattle.std.specs.Prelude.{Result, Ok, Err}
 use Prim.Native.Nat.{ℕ, ◌+◌, ◌<◌, ◌≤◌}
 use native.Mathlib.Decide.{dec_le}
 use native.Mathlib.Omega.{arith}
@@ -8,9 +9,10 @@ use Rattle.space.specs.declared.vector.Vector.{Vector}
 use Rattle.space.specs.Vectors.{entries, Sized}
 use Rattle.job.specs.declared.record.Stream.{Stream}
 use Rattle.job.specs.declared.record.Job.{Job}
-use Rattle.job.specs.Refusals.{First}
+use Rattle.job.specs.declared.refusal.Refusal.{Refusal}
+use Rattle.job.specs.Refusals.{First, number_of}
 use Rattle.job.specs.Limits.{Unused, Idle, Shaped, Sound, Acceptable, row_limit}
-use Rattle.job.proofs.Refusing.{first_unique, acceptable}
+use Rattle.job.proofs.Refusing.{first_unique, acceptable, number_unique, refuses}
 use Rattle.job.proofs.Accepting.{empty_sized}
 use Rattle.layout.specs.Layout.{streams_from, matrices_from, total_of, header_of, file_of, InBytes, Lays}
 use Rattle.layout.proofs.Entries.{sized_held}
@@ -18,8 +20,6 @@ use Rattle.layout.proofs.Injective.{lays_unique, file_length}
 use Rattle.layout.proofs.Totals.{total_small}
 use Rattle.reader.specs.Reading.{file_checks, Reads}
 use Rattle.reader.specs.Pieces.{Headed}
-use Rattle.reader.specs.declared.reading.Reading.{Reading}
-use Rattle.reader.specs.declared.reading.Reading.TheVariants as R
 use Rattle.reader.proofs.Places.{pair_value}
 use Rattle.reader.proofs.Replying.{record_first}
 
@@ -90,8 +90,8 @@ acceptable_first : (j : Job) (s : List ℕ) → Acceptable j → file_of j ≡ s
 acceptable_first j s a e = record_first s (subst Headed e (file_headed j a.shaped)) j (acceptable_lays j s a e) 0 (acceptable j a)
 
 -- two replies to the same bytes are one
-pub reads_unique : (s : List ℕ) (r r' : Reading) → Reads s r → Reads s r' → r ≡ r'
-reads_unique s (R.Job j) (R.Job j') p q = ap R.Job (lays_unique j j' s (acceptable_lays j s p.0 p.1) (acceptable_lays j' s q.0 q.1))
-reads_unique s (R.Job j) (R.Refused r) p q = absurd (q.1 (first_unique (file_checks s) r 0 q.0 (acceptable_first j s p.0 p.1)))
-reads_unique s (R.Refused r) (R.Job j) p q = absurd (p.1 (first_unique (file_checks s) r 0 p.0 (acceptable_first j s q.0 q.1)))
-reads_unique s (R.Refused r) (R.Refused r') p q = ap R.Refused (first_unique (file_checks s) r r' p.0 q.0)
+pub reads_unique : (s : List ℕ) (r r' : Result Job Refusal) → Reads s r → Reads s r' → r ≡ r'
+reads_unique s (Ok j) (Ok j') p q = ap Ok (lays_unique j j' s (acceptable_lays j s p.0 p.1) (acceptable_lays j' s q.0 q.1))
+reads_unique s (Ok j) (Err r) p q = absurd (refuses r (first_unique (file_checks s) (number_of r) 0 q (acceptable_first j s p.0 p.1)))
+reads_unique s (Err r) (Ok j) p q = absurd (refuses r (first_unique (file_checks s) (number_of r) 0 p (acceptable_first j s q.0 q.1)))
+reads_unique s (Err r) (Err r') p q = ap Err (number_unique r r' (first_unique (file_checks s) (number_of r) (number_of r') p q))

@@ -27,14 +27,14 @@ pub fn job_of(s: &[u8]) -> Job
         n: s[2],
         k: s[3],
         m: s[4],
-        bounds: bounds,
-        s0: s0,
-        s1: s1,
-        s2: s2,
-        s3: s3,
-        time: time,
-        row0: row0,
-        row1: row1,
+        bounds,
+        s0,
+        s1,
+        s2,
+        s3,
+        time,
+        row0,
+        row1,
     }
 }
 
@@ -66,7 +66,7 @@ fn stream_or(s: &[u8], n: usize, m: usize, i: usize) -> Stream
     }
 }
 
-// Row i of the matrices, or zeros where i is over k.
+// Row i of the matrices, or zeros where i is over k. (Beside `stream_or`, type, place and width are others: one function would have to be handed all three.)
 fn row_or(s: &[u8], n: usize, k: usize, m: usize, i: usize) -> Vector
     requires { (n ≤ 4) × (k ≤ 2) × (m ≤ 4) × (total_of 1 n k m ≤ length s.now) }
     ensures { RowAt s.now n k m i result }
@@ -86,7 +86,7 @@ fn stream_of(l: &[u8], n: usize) -> Stream
 {
     let d = vector_of(&l[..n]);
     Stream {
-        d: d,
+        d,
         kind: l[n],
         rule: l[n + 1],
         a: l[n + 2],
@@ -100,10 +100,7 @@ fn bounds_of(l: &[u8]) -> Bounds
 {
     let low = entries_at(l, 0, 2, 4, 6);
     let high = entries_at(l, 1, 3, 5, 7);
-    Bounds {
-        low: low,
-        high: high,
-    }
+    Bounds { low, high }
 }
 
 // A vector: as many entries as there are bytes, the others 0.

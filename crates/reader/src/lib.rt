@@ -1,4 +1,4 @@
-// The reader: job bytes to the job, or the number of refusal, 1 to 8.
+// The reader: job bytes to the job, or the refusal, 1 to 8.
 
 #![tactic(auto)]
 

@@ -1,27 +1,15 @@
-// The reader: job bytes to the job or the number of refusal, 1 to 8.
+// The reader: job bytes to the job, or refusal 1 to 8.
 ghost use Rattle.reader.specs.Reading.{Reads};
 
 use job::record::Job;
+use job::refusal::Refusal;
 
-// What reading answers.
-#[derive(Clone, Copy)]
-pub enum Reading {
-    Job(Job),
-    Refused(u8),
-}
-
-// The job whose file the bytes are, or the number of the first check that they do not pass.
-pub fn read(s: &[u8]) -> Reading
+// The job whose file the bytes are, or the first check that they do not pass.
+pub fn read(s: &[u8]) -> Result<Job, Refusal>
     ensures { Reads s.now result }
 {
-    let head = header::number(s);
-    if head != 0 {
-        return Reading::Refused(head);
-    }
+    header::check(s)?;
     let j = crate::body::job_of(s);
-    let number = job::limits::number(j);
-    if number != 0 {
-        return Reading::Refused(number);
-    }
-    Reading::Job(j)
+    job::limits::check(j)?;
+    Ok(j)
 }

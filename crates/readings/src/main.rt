@@ -3,18 +3,12 @@
 #![tactic(auto)]
 
 use job::record::Job;
-use reader::reading::Reading;
-use std::io;
-use std::io::Write;
-use writer::Wrote;
+use std::io::{self, Write};
 
 // The 30 bytes of document 01: box 0..1 squared, one local stream along (0,1), H (1,2), S (1,2).
-fn thirty() -> [u8; 30] {
-    [
-        1, 0, 2, 1, 1, 0, 16, 0, 20, 0, 26, 0, 30, 0, 0, 0, 0, 1, 0, 1, 0, 1, 1, 0, 0, 0, 1, 2, 1,
-        2,
-    ]
-}
+const THIRTY: [u8; 30] = [
+    1, 0, 2, 1, 1, 0, 16, 0, 20, 0, 26, 0, 30, 0, 0, 0, 0, 1, 0, 1, 0, 1, 1, 0, 0, 0, 1, 2, 1, 2,
+];
 
 // Writes a text.
 fn say<W: Write>(out: &mut W, text: &[u8]) -> io::Result<()> {
@@ -24,37 +18,26 @@ fn say<W: Write>(out: &mut W, text: &[u8]) -> io::Result<()> {
 // Whether writing the job gives the bytes that it was read from.
 fn is_written_back(j: Job, s: &[u8]) -> bool {
     let mut buffer = [170u8; 80];
-    let wrote = writer::write(&mut buffer, j);
-    let Wrote::Total(total) = wrote else {
-        return false;
-    };
-    front(&buffer, total) == s
-}
-
-// The first n bytes, or all where there are not so many.
-fn front(s: &[u8], n: usize) -> &[u8] {
-    if n <= s.len() {
-        return &s[..n];
+    match writer::write(&mut buffer, j) {
+        Ok(total) => front(&buffer, total) == s,
+        Err(_) => false,
     }
-    s
 }
 
-// A byte as a number that can be printed.
-fn wide(n: u8) -> u64 {
-    n as u64
+// The first n bytes, or all where there are not so many. (`runs` has this and `say` too: two programs share no crate.)
+fn front(s: &[u8], n: usize) -> &[u8] {
+    &s[..n.min(s.len())]
 }
 
 // One line: the name, and what the reader answers.
 fn tell<W: Write>(out: &mut W, name: &[u8], s: &[u8]) -> io::Result<()> {
     say(out, name)?;
-    let read = reader::reading::read(s);
-    match read {
-        Reading::Refused(n) => {
-            say(out, b": refused ")?;
-            write!(out, "{}", wide(n))?;
-            say(out, b"\n")
+    match reader::reading::read(s) {
+        Err(why) => {
+            let number = u8::from(why);
+            writeln!(out, ": refused {number}")
         }
-        Reading::Job(j) => {
+        Ok(j) => {
             if is_written_back(j, s) {
                 say(out, b": a job, and written back the same\n")
             } else {
@@ -66,16 +49,16 @@ fn tell<W: Write>(out: &mut W, name: &[u8], s: &[u8]) -> io::Result<()> {
 
 // The 30 bytes with one of them changed.
 fn changed(i: usize, b: u8) -> [u8; 30] {
-    let mut s = thirty();
-    if i < 30 {
-        s[i] = b;
+    let mut s = THIRTY;
+    if let Some(byte) = s.get_mut(i) {
+        *byte = b;
     }
     s
 }
 
 // The 30 bytes with the box 0..first by 0..second.
 fn boxed(first: u8, second: u8) -> [u8; 30] {
-    let mut s = thirty();
+    let mut s = THIRTY;
     s[17] = first;
     s[19] = second;
     s
@@ -83,7 +66,7 @@ fn boxed(first: u8, second: u8) -> [u8; 30] {
 
 // Too few bytes and too many.
 fn lengths<W: Write>(out: &mut W) -> io::Result<()> {
-    let s = thirty();
+    let s = THIRTY;
     tell(out, b"the 30 bytes", &s)?;
     tell(out, b"no byte", front(&s, 0))?;
     tell(out, b"15 bytes", front(&s, 15))?;

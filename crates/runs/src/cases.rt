@@ -1,6 +1,6 @@
 // One case: what run, loop and single ticks make of a job and its input.
-use crate::guarded::{GUARD, front, is_guarded, is_same, part, rest};
-use crate::output::{every, holds, number, reply, say, wide};
+use crate::guarded::{GUARD, front, is_guarded, part, rest};
+use crate::output::{every, holds, number, reply, say};
 use job::numbers::Counted;
 use job::record::Job;
 use std::io::{self, Write};
@@ -15,7 +15,12 @@ pub fn compare<W: Write>(
     lent: usize,
 ) -> io::Result<()> {
     let mut places = [GUARD; 80];
-    let a = checks::counted(array::run::run_of(j, input, &mut run[..], part(&mut places, lent)));
+    let a = job::numbers::numbered(array::run::run_of(
+        j,
+        input,
+        &mut run[..],
+        part(&mut places, lent),
+    ));
     reply(out, b"run", a, b" 0 ticks")?;
     unchanged(out, a, &run[..], &places)?;
     beside(out, j, input, a, &run[..])?;
@@ -39,7 +44,7 @@ pub fn unchanged<W: Write>(
 fn beside<W: Write>(out: &mut W, j: Job, input: &[u32], a: Counted, run: &[u32]) -> io::Result<()> {
     let mut looped = [GUARD; 81];
     let n = run.len();
-    let b = array::loops::counted(array::loops::loop_of(j, input, part(&mut looped, n)));
+    let b = job::numbers::numbered(array::loops::loop_of(j, input, part(&mut looped, n)));
     reply(out, b"loop", b, b" 0 points")?;
     unchanged(out, b, &looped, run)?;
     if a.number == 0 {
@@ -64,12 +69,12 @@ fn streams<W: Write>(out: &mut W, j: Job, run: &[u32], looped: &[u32]) -> io::Re
 // The values of one stream, by run and by loop.
 fn stream<W: Write>(out: &mut W, s: u8, run: &[u32], looped: &[u32]) -> io::Result<()> {
     say(out, b"stream")?;
-    number(out, wide(s))?;
+    number(out, u64::from(s))?;
     say(out, b" run")?;
     every(out, 1, run)?;
     say(out, b" loop")?;
     every(out, 1, looped)?;
-    holds(out, b" same", is_same(run, looped))
+    holds(out, b" same", run == looped)
 }
 
 // R of an accepted job.
@@ -109,14 +114,20 @@ fn is_ticked(j: Job, input: &[u32], ticks: u64, run: &[u32], places: &[u32]) -> 
     let n = run.len();
     let room = places.len();
     let answered = each_tick(j, input, ticks, part(&mut table, n), part(&mut own, room));
-    answered & is_same(run, front(&table, n)) & is_same(places, front(&own, room))
+    answered & (run == front(&table, n)) & (places == front(&own, room))
 }
 
 // One tick after another. Does each answer the tick count?
 fn each_tick(j: Job, input: &[u32], ticks: u64, table: &mut [u32], places: &mut [u32]) -> bool {
     let mut all = true;
     for t in 0..ticks {
-        let a = checks::counted(array::run::tick_of(j, t, input, &mut table[..], &mut places[..]));
+        let a = job::numbers::numbered(array::run::tick_of(
+            j,
+            t,
+            input,
+            &mut table[..],
+            &mut places[..],
+        ));
         all = all & (a.number == 0) & (a.count == ticks);
     }
     all

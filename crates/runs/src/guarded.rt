@@ -1,47 +1,25 @@
-// Parts of tables, and comparisons.
+// Parts of tables, and what stands in them before a run.
 
 // What stands in every value table and every place before a run.
 pub const GUARD: u32 = 7;
 
 // The first n values, or all where there are not so many.
 pub fn front(s: &[u32], n: usize) -> &[u32] {
-    if n <= s.len() {
-        return &s[..n];
-    }
-    s
+    &s[..n.min(s.len())]
 }
 
-// The same, to be written to.
+// The same, to be written to. (One function cannot lend both ways.)
 pub fn part(s: &mut [u32], n: usize) -> &mut [u32] {
-    if n <= s.len() {
-        return &mut s[..n];
-    }
-    s
+    let end = n.min(s.len());
+    &mut s[..end]
 }
 
 // The values from place n on, or none where there are not so many.
 pub fn rest(s: &[u32], n: usize) -> &[u32] {
-    if n <= s.len() {
-        return &s[n..];
-    }
-    &s[..0]
+    &s[n.min(s.len())..]
 }
 
-// Do both tables hold the same?
-pub fn is_same(a: &[u32], b: &[u32]) -> bool {
-    if a.len() != b.len() {
-        return false;
-    }
-    for i in 0..a.len() {
-        if a[i] != b[i] {
-            return false;
-        }
-    }
-    true
-}
-
-// Does every place, of at most 81, hold the guard?
+// Does every place hold the guard?
 pub fn is_guarded(s: &[u32]) -> bool {
-    let guards = [GUARD; 81];
-    is_same(s, front(&guards, s.len()))
+    s.iter().all(|x| *x == GUARD)
 }

@@ -6,8 +6,8 @@ const UNREAD: u32 = 1000;
 // The numbers from first on, modulo 2^32.
 pub fn numbers(first: u32) -> [u32; 81] {
     let mut t = [0u32; 81];
-    for k in 0..81 {
-        put(&mut t, k, std::num::wrapping_add_u32(first, k));
+    for (place, k) in t.iter_mut().zip(0..81) {
+        *place = first.wrapping_add(k);
     }
     t
 }
@@ -16,8 +16,8 @@ pub fn numbers(first: u32) -> [u32; 81] {
 pub fn matrices(x: u32) -> [u32; 81] {
     let text = b"271......828......182......312156495..................x..x..x..x..x..x..x..x..x..";
     let mut t = [0u32; 81];
-    for k in 0..81 {
-        put(&mut t, k, meant(text[k as usize], x));
+    for (place, letter) in t.iter_mut().zip(text) {
+        *place = meant(*letter, x);
     }
     t
 }
@@ -30,12 +30,5 @@ fn meant(letter: u8, x: u32) -> u32 {
     if letter < b'0' {
         return UNREAD;
     }
-    (letter - b'0') as u32
-}
-
-// v goes to place k.
-fn put(t: &mut [u32; 81], k: u32, v: u32) {
-    if k < 81 {
-        t[k as usize] = v;
-    }
+    u32::from(letter - b'0')
 }

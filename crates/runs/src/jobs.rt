@@ -8,7 +8,7 @@ pub fn vector(x0: i64, x1: i64, x2: i64) -> Vector {
     Vector { x0, x1, x2, x3: 0 }
 }
 
-// A through stream with a rule and its sources.
+// A through stream with a rule and its sources. (A number, here and below, since rule 3 is to be refused.)
 fn stream(d: Vector, rule: u8, a: u8, b: u8) -> Stream {
     Stream {
         d,

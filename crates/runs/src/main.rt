@@ -191,7 +191,7 @@ fn tick<W: Write>(
 ) -> io::Result<()> {
     let mut table = [GUARD; 3];
     let mut places = from;
-    let a = checks::counted(array::run::tick_of(
+    let a = job::numbers::numbered(array::run::tick_of(
         crate::jobs::line(rule),
         t,
         &[1, 2, 3],
@@ -246,6 +246,6 @@ fn bytes<W: Write>(out: &mut W) -> io::Result<()> {
 fn from_bytes<W: Write>(out: &mut W, s: &[u8]) -> io::Result<()> {
     let mut table = [GUARD; 3];
     let mut places = [GUARD; 3];
-    let a = checks::counted(calls::run_of_bytes(s, &[1, 2, 3], &mut table, &mut places));
+    let a = job::numbers::numbered(calls::run_of_bytes(s, &[1, 2, 3], &mut table, &mut places));
     shown(out, a, &table, &places)
 }

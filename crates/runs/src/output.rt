@@ -16,24 +16,12 @@ pub fn number<W: Write>(out: &mut W, x: u64) -> io::Result<()> {
     write!(out, "{x}")
 }
 
-// A byte as a wider number.
-pub fn wide(x: u8) -> u64 {
-    x as u64
-}
-
-// A value of a table as a wider number.
-fn value(x: u32) -> u64 {
-    x as u64
-}
-
 // A blank before every n-th value.
 pub fn every<W: Write>(out: &mut W, n: usize, s: &[u32]) -> io::Result<()>
     requires { 0 < n }
 {
-    for i in 0..s.len() {
-        if (i + 1) % n == 0 {
-            number(out, value(s[i]))?;
-        }
+    for x in s.iter().skip(n - 1).step_by(n) {
+        number(out, u64::from(*x))?;
     }
     Ok(())
 }
@@ -64,7 +52,7 @@ pub fn reply<W: Write>(out: &mut W, who: &[u8], a: Counted, unit: &[u8]) -> io::
 // The number of refusal, with R where it is given.
 fn refusal<W: Write>(out: &mut W, a: Counted) -> io::Result<()> {
     say(out, b" refused")?;
-    number(out, wide(a.number))?;
+    number(out, u64::from(a.number))?;
     if 0 < a.count {
         say(out, b" room")?;
         number(out, a.count)?;
@@ -72,21 +60,12 @@ fn refusal<W: Write>(out: &mut W, a: Counted) -> io::Result<()> {
     Ok(())
 }
 
-// A coordinate with its sign.
-fn coordinate<W: Write>(out: &mut W, x: i64) -> io::Result<()> {
-    if x < 0 {
-        say(out, b"-")?;
-    }
-    let size = space::divisor::size(x);
-    write!(out, "{size}")
-}
-
 // The first two coordinates of a point, or the first alone where there is one.
 pub fn point<W: Write>(out: &mut W, p: Vector, n: u8) -> io::Result<()> {
-    coordinate(out, p.x0)?;
+    let Vector { x0, x1, .. } = p;
+    write!(out, "{x0}")?;
     if 1 < n {
-        say(out, b",")?;
-        coordinate(out, p.x1)?;
+        write!(out, ",{x1}")?;
     }
     Ok(())
 }

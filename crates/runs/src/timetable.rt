@@ -1,6 +1,5 @@
 // Which point is worked in which tick at which cell.
-use crate::output::{number, say, wide};
-use array::lookup::Lookup;
+use crate::output::{number, say};
 use job::record::Job;
 use std::io::{self, Write};
 
@@ -41,12 +40,12 @@ fn worked<W: Write>(out: &mut W, j: Job, t: u64, x: u64) -> io::Result<()> {
     say(out, b" ")?;
     let w = array::lookup::point_at(j, t, x);
     match w {
-        Lookup::At(p) => crate::output::point(out, p, j.n),
-        Lookup::Nowhere => say(out, b"-"),
-        Lookup::Refused(v) => {
+        Ok(Some(p)) => crate::output::point(out, p, j.n),
+        Ok(None) => say(out, b"-"),
+        Err(v) => {
             let a = verdict::numbers::in_numbers(v);
             say(out, b"refused")?;
-            number(out, wide(a.number))
+            number(out, u64::from(a.number))
         }
     }
 }

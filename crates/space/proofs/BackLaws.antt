@@ -2,7 +2,7 @@
 use mathlib.Core.Path.{◌≡◌, refl, sym, subst, ◌∙◌}
 use mathlib.Core.Bool.{Bool, true, false, cond, ◌&&◌}
 use mathlib.Core.List.{List, [], ◌∷◌}
-use mathlib.Core.Option.{Option, none, some}
+use Rattle.std.specs.Prelude.{Option, None, Some}
 use Prim.Native.Nat.{ℕ, ◌<◌}
 use native.Mathlib.Omega.{arith}
 use lib.ListN.{length}
@@ -43,7 +43,7 @@ minus_minus (x ∷ xs) (y ∷ ys) e = joined (twice x y) (minus_minus xs ys (ome
     joined e f = cc
 
 -- what a test of x - d answers
-pub back_told : (B : Box) (d : List ℤ) (k : ℕ) (y : List ℤ) (b : Bool) → y ≡ minus_of (point_of B k) d → Tells (In B y) b → cond b (some (place_of B y)) none ≡ back_of B d k
+pub back_told : (B : Box) (d : List ℤ) (k : ℕ) (y : List ℤ) (b : Bool) → y ≡ minus_of (point_of B k) d → Tells (In B y) b → cond b (Some (place_of B y)) None ≡ back_of B d k
 unfolding back_of
 back_told B d k y b e t =
     let z = minus_of (point_of B k) d in
@@ -51,27 +51,27 @@ back_told B d k y b e t =
     rw (i, e)
 
 -- a place that is found is that of a point of the box
-pub back_some : (B : Box) (d : List ℤ) (k q : ℕ) → back_of B d k ≡ some q → In B (minus_of (point_of B k) d) × (place_of B (minus_of (point_of B k) d) ≡ q)
+pub back_some : (B : Box) (d : List ℤ) (k q : ℕ) → back_of B d k ≡ Some q → In B (minus_of (point_of B k) d) × (place_of B (minus_of (point_of B k) d) ≡ q)
 unfolding back_of
 back_some B d k q e = by (inside B y) (inside_tells B y) e
   where
     y : List ℤ
     y = minus_of (point_of B k) d
 
-    by : (b : Bool) → Tells (In B y) b → ◌≡◌ {A = Option ℕ} (cond b (some (place_of B y)) none) (some q) → In B y × (place_of B y ≡ q)
+    by : (b : Bool) → Tells (In B y) b → ◌≡◌ {A = Option ℕ} (cond b (Some (place_of B y)) None) (Some q) → In B y × (place_of B y ≡ q)
     by true t e = (t.holds refl, cc)
     by false t e = let z : ◌≡◌ {A = ℕ} 0 1 = cc in absurd (omega arith)
 
 -- from a point by a vector to a point of the box
-pub back_here : (B : Box) (p d : List ℤ) → In B p → In B (minus_of p d) → back_of B d (place_of B p) ≡ some (place_of B (minus_of p d))
+pub back_here : (B : Box) (p d : List ℤ) → In B p → In B (minus_of p d) → back_of B d (place_of B p) ≡ Some (place_of B (minus_of p d))
 unfolding back_of
 back_here B p d h g = rw (point_place B p h, told (inside B (minus_of p d)) (inside_tells B (minus_of p d)) g)
 
-pub back_below : (B : Box) (d : List ℤ) (k q : ℕ) → back_of B d k ≡ some q → q < count_of B
+pub back_below : (B : Box) (d : List ℤ) (k q : ℕ) → back_of B d k ≡ Some q → q < count_of B
 back_below B d k q e = let f = back_some B d k q e in omega (arith, place_below B (minus_of (point_of B k) d) f.0, f.1)
 
 -- a vector that points forward leads back to a lower place
-pub back_before : (B : Box) (d : List ℤ) (k q : ℕ) → Forward d → length d ≡ length B → k < count_of B → back_of B d k ≡ some q → q < k
+pub back_before : (B : Box) (d : List ℤ) (k q : ℕ) → Forward d → length d ≡ length B → k < count_of B → back_of B d k ≡ Some q → q < k
 back_before B d k q f l lk e =
     let p = point_of B k in
     let y = minus_of p d in

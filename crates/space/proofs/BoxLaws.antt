@@ -13,11 +13,12 @@ use lib.Signed.{◌≤ℤ◌, ◌<ℤ◌, ≤ℤ_refl}
 use Rattle.space.specs.Numbers.{Size, Tells, steps}
 use Rattle.space.specs.Vectors.{entries, plus_of, times_of, Sizes, Sized}
 use Rattle.space.specs.Order.{Before}
-use Rattle.space.specs.Boxes.{Side, Box, box_of, In, Solid, across, count_of, place_of, point_of}
+use Rattle.space.specs.Boxes.{Side, Box, box_of, Within, In, Solid, across, count_of, place_of, point_of}
 use Rattle.space.specs.declared.boxes.Bounds.{Bounds}
 use Rattle.space.proofs.Parts.{int, sum, difference, magnitude}
 use Rattle.space.proofs.Ints.{size_between, plus_size, nat_abs--, *ℤ_mono, *ℤ_anti, ≤ℤ_or-<, ≤ℤ_trans}
 use Rattle.space.proofs.Telling.{tells_as, tells_and}
+use Rattle.space.proofs.VectorLaws.{sized_up}
 use Rattle.space.proofs.OrderLaws.{before_total}
 
 -- ---- one side
@@ -169,6 +170,9 @@ convex (s ∷ ss) (a ∷ p) (x ∷ v) f g h k i j =
     (between_low s.low a x f g h k i.0 j.0, between_high a s.high x f g h k i.1 j.1, convex ss p v f g h k i.2 j.2)
 
 -- ---- sizes: a point of the box is as small as its bounds
+pub within_up : {b d : ℕ} {a : Bounds} → b ≤ d → Within b a → Within d a
+within_up h p = (sized_up h p.0, sized_up h p.1)
+
 abbrev pub SidesSized : ℕ → Box → Type 0
 SidesSized b [] = Unit {0}
 SidesSized b (s ∷ ss) = Size b s.low × Size b s.high × SidesSized b ss

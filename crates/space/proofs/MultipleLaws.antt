@@ -8,8 +8,7 @@ use lib.ListN.{get_or}
 use Rattle.space.specs.Vectors.{times_of, NonZero}
 use Rattle.space.proofs.Ints.{*ℤ_cancel}
 use Rattle.space.specs.Multiples.{TellsMultiple}
-use Rattle.space.specs.declared.multiple.Multiple.{Multiple}
-use Rattle.space.specs.declared.multiple.Multiple.TheVariants.{Times, No}
+use Rattle.std.specs.Prelude.{Option, Some, None}
 
 pub times_cancel : (d : List ℤ) (z w : ℤ) → NonZero d → times_of z d ≡ times_of w d → z ≡ w
 unfolding times_of
@@ -17,11 +16,11 @@ times_cancel [] z w n e = absurd n
 times_cancel (x ∷ d) z w (inl h) e = *ℤ_cancel x h (cc)
 times_cancel (x ∷ d) z w (inr n) e = times_cancel d z w n (cc)
 
-pub answers_unique : (y d : List ℤ) (r s : Multiple) → NonZero d → TellsMultiple y d r → TellsMultiple y d s → r ≡ s
-answers_unique y d (Times z) (Times w) n p q = ap Times (times_cancel d z w n (sym p ∙ q))
-answers_unique y d (Times z) No n p q = absurd (q z p)
-answers_unique y d No (Times w) n p q = absurd (p w q)
-answers_unique y d No No n p q = refl
+pub answers_unique : (y d : List ℤ) (r s : Option ℤ) → NonZero d → TellsMultiple y d r → TellsMultiple y d s → r ≡ s
+answers_unique y d (Some z) (Some w) n p q = ap Some (times_cancel d z w n (sym p ∙ q))
+answers_unique y d (Some z) None n p q = absurd (q z p)
+answers_unique y d None (Some w) n p q = absurd (p w q)
+answers_unique y d None No n p q = refl
 
 -- two equal lists have equal entries
 pub same_entry : (k : ℕ) {y d : List ℤ} → y ≡ d → get_or y k (pos 0) ≡ get_or d k (pos 0)

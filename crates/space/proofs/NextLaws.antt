@@ -1,13 +1,19 @@
 -- The point after a point in box order: the last entry that can still rise does, and those behind it fall back to the low bound.
 use mathlib.Core.Path.{◌≡◌, sym, ap, ◌∙◌}
+use mathlib.Core.Logic.{⊎_elim}
 use mathlib.Core.List.{List, [], ◌∷◌}
 use Prim.Native.Nat.{ℕ, ◌+◌, ◌<◌}
 use native.Mathlib.Omega.{arith}
 use lib.IntN.{ℤ, pos, ◌+ℤ◌, ◌-ℤ◌}
 use lib.Signed.{◌≤ℤ◌, ◌<ℤ◌}
 use Rattle.space.specs.Numbers.{steps}
-use Rattle.space.specs.Boxes.{Side, Box, In, count_of, place_of, point_of}
+use Rattle.space.specs.declared.vector.Vector.{Vector}
+use Rattle.space.specs.declared.boxes.Bounds.{Bounds}
+use Rattle.space.specs.Vectors.{entries}
+use Rattle.space.specs.Boxes.{Side, Box, side, box_of, In, count_of, place_of, point_of}
 use Rattle.space.proofs.Parts.{int, sum, difference, magnitude}
+use Rattle.space.proofs.Ints.{≤ℤ_or-<}
+use Rattle.space.proofs.VectorLaws.{four}
 use Rattle.space.proofs.BoxLaws.{lows_of, solid_in, in_solid, place_point, point_place}
 
 -- q is the point after p
@@ -65,3 +71,52 @@ last_more s ss x xs h k l =
 pub last_nothing : Last [] []
 unfolding place_of count_of Last
 last_nothing = omega arith
+
+-- ---- the point after p in a box of four sides: the last entry that is below its high bound rises, and those behind it fall back
+module _ (b : Bounds) (p : Vector) (i : In (box_of b) (entries p)) (k : ℕ) (e : entries p ≡ point_of (box_of b) k) (h : k + 1 < count_of (box_of b)) where
+  -- the point without its first entries, in the box without its first sides
+  in1 : In (side b.low.x1 b.high.x1 ∷ side b.low.x2 b.high.x2 ∷ side b.low.x3 b.high.x3 ∷ []) (p.x1 ∷ p.x2 ∷ p.x3 ∷ [])
+  unfolding In
+  in1 = i.2
+
+  in2 : In (side b.low.x2 b.high.x2 ∷ side b.low.x3 b.high.x3 ∷ []) (p.x2 ∷ p.x3 ∷ [])
+  unfolding In
+  in2 = in1.2
+
+  in3 : In (side b.low.x3 b.high.x3 ∷ []) (p.x3 ∷ [])
+  unfolding In
+  in3 = in2.2
+
+  follows : {q r : List ℤ} → r ≡ q → Next (box_of b) (entries p) q → r ≡ point_of (box_of b) (k + 1)
+  follows {q} f n = f ∙ next_point (box_of b) (entries p) q k n e (omega arith)
+
+  pub last_rises : {x0 x1 x2 x3 : ℤ} → p.x3 <ℤ b.high.x3 → x0 ≡ p.x0 → x1 ≡ p.x1 → x2 ≡ p.x2 → x3 ≡ p.x3 +ℤ pos 1 → ◌≡◌ {A = List ℤ} (x0 ∷ x1 ∷ x2 ∷ x3 ∷ []) (point_of (box_of b) (k + 1))
+  last_rises l e0 e1 e2 e3 =
+      follows (four e0 e1 e2 e3) (next_behind _ _ _ _ _ i (next_behind _ _ _ _ _ in1 (next_behind _ _ _ _ _ in2 (next_first _ [] _ [] in3 last_nothing l))))
+
+  -- where the last entry cannot rise
+  module _ (h3 : b.high.x3 ≤ℤ p.x3) where
+    last3 : Last (side b.low.x3 b.high.x3 ∷ []) (p.x3 ∷ [])
+    last3 = last_more _ [] _ [] in3 h3 last_nothing
+
+    pub third_rises : {x0 x1 x2 x3 : ℤ} → p.x2 <ℤ b.high.x2 → x0 ≡ p.x0 → x1 ≡ p.x1 → x2 ≡ p.x2 +ℤ pos 1 → x3 ≡ b.low.x3 → ◌≡◌ {A = List ℤ} (x0 ∷ x1 ∷ x2 ∷ x3 ∷ []) (point_of (box_of b) (k + 1))
+    third_rises l e0 e1 e2 e3 = follows (four e0 e1 e2 e3) (next_behind _ _ _ _ _ i (next_behind _ _ _ _ _ in1 (next_first _ _ _ _ in2 last3 l)))
+
+    -- nor the third
+    module _ (h2 : b.high.x2 ≤ℤ p.x2) where
+      last2 : Last (side b.low.x2 b.high.x2 ∷ side b.low.x3 b.high.x3 ∷ []) (p.x2 ∷ p.x3 ∷ [])
+      last2 = last_more _ _ _ _ in2 h2 last3
+
+      pub second_rises : {x0 x1 x2 x3 : ℤ} → p.x1 <ℤ b.high.x1 → x0 ≡ p.x0 → x1 ≡ p.x1 +ℤ pos 1 → x2 ≡ b.low.x2 → x3 ≡ b.low.x3 → ◌≡◌ {A = List ℤ} (x0 ∷ x1 ∷ x2 ∷ x3 ∷ []) (point_of (box_of b) (k + 1))
+      second_rises l e0 e1 e2 e3 = follows (four e0 e1 e2 e3) (next_behind _ _ _ _ _ i (next_first _ _ _ _ in1 last2 l))
+
+      -- nor the second: as a point follows, the first can
+      module _ (h1 : b.high.x1 ≤ℤ p.x1) where
+        last1 : Last (side b.low.x1 b.high.x1 ∷ side b.low.x2 b.high.x2 ∷ side b.low.x3 b.high.x3 ∷ []) (p.x1 ∷ p.x2 ∷ p.x3 ∷ [])
+        last1 = last_more _ _ _ _ in1 h1 last2
+
+        first_below : p.x0 <ℤ b.high.x0
+        first_below = ⊎_elim (λ l. absurd (last_none (box_of b) (entries p) k (last_more _ _ _ _ i l last1) e h)) (λ l. l) (≤ℤ_or-< b.high.x0 p.x0)
+
+        pub first_rises : {x0 x1 x2 x3 : ℤ} → x0 ≡ p.x0 +ℤ pos 1 → x1 ≡ b.low.x1 → x2 ≡ b.low.x2 → x3 ≡ b.low.x3 → ◌≡◌ {A = List ℤ} (x0 ∷ x1 ∷ x2 ∷ x3 ∷ []) (point_of (box_of b) (k + 1))
+        first_rises e0 e1 e2 e3 = follows (four e0 e1 e2 e3) (next_first _ _ _ _ i last1 first_below)

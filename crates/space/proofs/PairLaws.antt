@@ -2,41 +2,24 @@
 use mathlib.Core.Path.{◌≡◌, refl, ap, ap₂, ◌∙◌}
 use Prim.Native.Nat.{ℕ, suc, ◌+◌}
 use mathlib.Core.Logic.{◌⊎◌, inl, inr}
-use mathlib.Core.Bool.{Bool, true, false, cond}
 use mathlib.Core.List.{List, [], ◌∷◌}
 use native.Mathlib.Nat.{suc_inj}
 use native.Mathlib.Omega.{arith}
 use lib.ListN.{length}
 use lib.IntN.{ℤ, ◌+ℤ◌, ◌-ℤ◌}
-use lib.Signed.{◌≤ℤ◌, ◌<ℤ◌, lt_z}
+use lib.Signed.{◌≤ℤ◌, ◌<ℤ◌}
+use Rattle.std.specs.Int.{int_max}
+use Rattle.std.proofs.lemmas.Int.{ints, clamps}
+use Rattle.space.specs.declared.vector.Vector.{Vector}
 use Rattle.space.specs.Vectors.{entries, plus_of, minus_of, Sized}
 use Rattle.space.specs.Order.{Before, AtMost}
 use Rattle.space.specs.Boxes.{Box, side, box_of, In, Apart}
 use Rattle.space.specs.declared.boxes.Bounds.{Bounds}
 use Rattle.space.proofs.Parts.{int, sum, difference}
 use Rattle.space.proofs.Ints.{≤ℤ_or-<, ≤ℤ_antisymm, minus_size}
-use Rattle.space.proofs.Machine.{lt_true, lt_false}
 use Rattle.space.proofs.VectorLaws.{four, unfour}
 use Rattle.space.proofs.OrderLaws.{at_most_both}
 use Rattle.space.proofs.BoxLaws.{in_length, SidesSized, sides_sized, in_sized}
-
--- ---- the greater of two numbers is over both, and under what is over both
-abbrev pub greater_of : ℤ → ℤ → ℤ
-greater_of a b = cond (lt_z a b) b a
-
-greater_over : (a b : ℤ) → (a ≤ℤ greater_of a b) × (b ≤ℤ greater_of a b)
-greater_over a b = by (lt_z a b) refl
-  where
-    by : (t : Bool) → lt_z a b ≡ t → (a ≤ℤ cond t b a) × (b ≤ℤ cond t b a)
-    by true e = (omega (int, lt_true a b e), omega int)
-    by false e = (omega int, omega (int, lt_false a b e))
-
-greater_under : (a b : ℤ) {z : ℤ} → a ≤ℤ z → b ≤ℤ z → greater_of a b ≤ℤ z
-greater_under a b {z} p q = by (lt_z a b)
-  where
-    by : (t : Bool) → cond t b a ≤ℤ z
-    by true = q
-    by false = p
 
 -- ---- the box of the differences, and the least point that a difference leads from
 unfoldable pub spread : Box → Box
@@ -46,7 +29,7 @@ spread (s ∷ ss) = side (s.low -ℤ s.high) (s.high -ℤ s.low) ∷ spread ss
 unfoldable pub start_of : Box → List ℤ → List ℤ
 start_of [] y = []
 start_of (s ∷ ss) [] = []
-start_of (s ∷ ss) (y ∷ ys) = greater_of s.low (s.low -ℤ y) ∷ start_of ss ys
+start_of (s ∷ ss) (y ∷ ys) = int_max s.low (s.low -ℤ y) ∷ start_of ss ys
 
 -- the code's bounds with low - high and high - low
 pub spread_box : (b r : Bounds) → entries r.low ≡ minus_of (entries b.low) (entries b.high) → entries r.high ≡ minus_of (entries b.high) (entries b.low) → box_of r ≡ spread (box_of b)
@@ -60,24 +43,14 @@ spread_box b r l u =
 step_in : (l u x y : ℤ) → l ≤ℤ x → x ≤ℤ u → l ≤ℤ (x +ℤ y) → (x +ℤ y) ≤ℤ u → ((l -ℤ u) ≤ℤ y) × (y ≤ℤ (u -ℤ l))
 step_in l u x y a b c d = (omega (int, sum x y, difference l u), omega (int, sum x y, difference u l))
 
-start_here : (l u y : ℤ) → (l -ℤ u) ≤ℤ y → y ≤ℤ (u -ℤ l) → (l ≤ℤ greater_of l (l -ℤ y)) × (greater_of l (l -ℤ y) ≤ℤ u)
-start_here l u y a b =
-    ((greater_over l (l -ℤ y)).0, greater_under l (l -ℤ y) (omega (int, difference l u, difference u l)) (omega (int, difference l u, difference l y)))
+start_here : (l u y : ℤ) → (l -ℤ u) ≤ℤ y → y ≤ℤ (u -ℤ l) → (l ≤ℤ int_max l (l -ℤ y)) × (int_max l (l -ℤ y) ≤ℤ u)
+start_here l u y a b = (omega (arith, ints, clamps), omega (arith, ints, clamps))
 
-start_there : (l u y : ℤ) → (l -ℤ u) ≤ℤ y → y ≤ℤ (u -ℤ l) → (l ≤ℤ (greater_of l (l -ℤ y) +ℤ y)) × ((greater_of l (l -ℤ y) +ℤ y) ≤ℤ u)
-start_there l u y a b = ends (greater_of l (l -ℤ y)) (greater_over l (l -ℤ y)).1 (greater_under l (l -ℤ y) low high)
-  where
-    low : l ≤ℤ (u -ℤ y)
-    low = omega (int, difference u l, difference u y)
+start_there : (l u y : ℤ) → (l -ℤ u) ≤ℤ y → y ≤ℤ (u -ℤ l) → (l ≤ℤ (int_max l (l -ℤ y) +ℤ y)) × ((int_max l (l -ℤ y) +ℤ y) ≤ℤ u)
+start_there l u y a b = (omega (arith, ints, clamps), omega (arith, ints, clamps))
 
-    high : (l -ℤ y) ≤ℤ (u -ℤ y)
-    high = omega (int, difference l u, difference u l, difference l y, difference u y)
-
-    ends : (g : ℤ) → (l -ℤ y) ≤ℤ g → g ≤ℤ (u -ℤ y) → (l ≤ℤ (g +ℤ y)) × ((g +ℤ y) ≤ℤ u)
-    ends g p q = (omega (int, sum g y, difference l y), omega (int, sum g y, difference u y))
-
-start_first : (l x y : ℤ) → l ≤ℤ x → l ≤ℤ (x +ℤ y) → greater_of l (l -ℤ y) ≤ℤ x
-start_first l x y a b = greater_under l (l -ℤ y) a (omega (int, sum x y, difference l y))
+start_first : (l x y : ℤ) → l ≤ℤ x → l ≤ℤ (x +ℤ y) → int_max l (l -ℤ y) ≤ℤ x
+start_first l x y a b = omega (arith, ints, clamps)
 
 -- ---- the start of a difference is a point of the box, and leads to one
 pub start_in : (B : Box) (y : List ℤ) → In (spread B) y → In B (start_of B y) × In B (plus_of (start_of B y) y)
@@ -142,6 +115,20 @@ under_at_most (x ∷ xs) (y ∷ ys) u = by (≤ℤ_or-< y x) (under_at_most xs y
 
 pub start_least : (B : Box) (y p : List ℤ) → In B p → In B (plus_of p y) → AtMost (start_of B y) p
 start_least B y p h t = under_at_most (start_of B y) p (start_below B y p h t)
+
+-- so the bounds and a difference lead to the least point
+module _ {a b c d : ℤ} (B : Bounds) (y s : Vector) (e : entries s ≡ minus_of (entries B.low) (entries y)) (p : a ≡ int_max B.low.x0 s.x0) (q : b ≡ int_max B.low.x1 s.x1) (r : c ≡ int_max B.low.x2 s.x2) (t : d ≡ int_max B.low.x3 s.x3) where
+  start_box : ◌≡◌ {A = List ℤ} (a ∷ b ∷ c ∷ d ∷ []) (start_of (box_of B) (entries y))
+  unfolding minus_of start_of
+  start_box =
+      let m = unfour e in
+      four (p ∙ ap (int_max B.low.x0) m.0) (q ∙ ap (int_max B.low.x1) m.1) (r ∙ ap (int_max B.low.x2) m.2) (t ∙ ap (int_max B.low.x3) m.3)
+
+  pub start_told : Apart (box_of B) (entries y) → In (box_of B) (a ∷ b ∷ c ∷ d ∷ []) × In (box_of B) (plus_of (a ∷ b ∷ c ∷ d ∷ []) (entries y))
+  start_told h = rw start_box (start_in (box_of B) (entries y) (apart_in (box_of B) (entries y) h))
+
+  pub start_told_least : (z : List ℤ) → In (box_of B) z → In (box_of B) (plus_of z (entries y)) → AtMost (a ∷ b ∷ c ∷ d ∷ []) z
+  start_told_least z i j = rw start_box (start_least (box_of B) (entries y) z i j)
 
 -- a difference is twice as small as the bounds
 pub apart_sized : {b : ℕ} (a : Bounds) (y : List ℤ) → Sized b (entries a.low) → Sized b (entries a.high) → Apart (box_of a) y → Sized (b + b) y

@@ -1,12 +1,9 @@
 -- 'Box: bounds l ≤ u for each' dimension, of any number of them; its points and their places in box order. (REFERENCE 1.2, 4.1)
-use Rattle.std.specs.Prelude.{◌≡◌, Bool, true, false, cond, ◌&&◌, List, [], ◌∷◌, ℕ, ◌+◌, ◌*◌, ◌/◌, ◌%◌, ◌<◌, length, ℤ, pos, negsuc, ◌+ℤ◌, ◌≤ℤ◌}
-use Rattle.std.proofs.Math.Option.{Option, none, some}
+use Rattle.std.specs.Prelude.{◌≡◌, Bool, true, false, cond, ◌&&◌, List, [], ◌∷◌, ℕ, ◌+◌, ◌*◌, ◌/◌, ◌%◌, ◌<◌, length, ℤ, pos, negsuc, ◌+ℤ◌, ◌≤ℤ◌, Option, None, Some}
 use Rattle.std.specs.Int.Signed.{le_z, lt_z}
 use Rattle.space.specs.Numbers.{steps}
-use Rattle.space.specs.Vectors.{dot_of, plus_of, minus_of, times_of}
+use Rattle.space.specs.Vectors.{entries, Sized, dot_of, plus_of, minus_of, times_of}
 use Rattle.space.specs.declared.boxes.Bounds.{Bounds}
-use Rattle.space.specs.declared.boxes.Found.{Found}
-use Rattle.space.specs.declared.boxes.Found.TheVariants.{At, Nowhere}
 use Rattle.space.specs.declared.boxes.Reach.{Reach}
 
 -- the bounds of one dimension
@@ -24,6 +21,10 @@ side l u = record { low = l; high = u }
 abbrev pub box_of : Bounds → Box
 box_of b =
     side b.low.x0 b.high.x0 ∷ side b.low.x1 b.high.x1 ∷ side b.low.x2 b.high.x2 ∷ side b.low.x3 b.high.x3 ∷ []
+
+-- the bounds are at most b in size
+abbrev pub Within : ℕ → Bounds → Type 0
+Within b s = Sized b (entries s.low) × Sized b (entries s.high)
 
 -- p is a point of the box
 unfoldable pub In : Box → List ℤ → Type 0
@@ -76,17 +77,12 @@ inside (s ∷ ss) (x ∷ xs) = le_z s.low x && (le_z x s.high && inside ss xs)
 
 -- what f makes of the thing that is there, or else b
 abbrev pub given : {A B : Type 0} → Option A → B → (A → B) → B
-given none b f = b
-given (some a) b f = f a
+given None b f = b
+given (Some a) b f = f a
 
 -- the place of x - d, where it is in the box, for the point x at place k
 unfoldable pub back_of : Box → List ℤ → ℕ → Option ℕ
-back_of B d k = cond (inside B (minus_of (point_of B k) d)) (some (place_of B (minus_of (point_of B k) d))) none
-
--- the place that was found
-abbrev pub found_of : Found → Option ℕ
-found_of (At k) = some k
-found_of Nowhere = none
+back_of B d k = cond (inside B (minus_of (point_of B k) d)) (Some (place_of B (minus_of (point_of B k) d))) None
 
 -- r is the least product of h and a point of the box
 pub record Least (h : List ℤ) (B : Box) (r : ℤ) : Type 0 where

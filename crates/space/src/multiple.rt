@@ -6,15 +6,8 @@ ghost use Rattle.space.specs.Multiples.{TellsMultiple};
 
 use crate::vector::Vector;
 
-// How many times one vector is another.
-#[derive(Clone, Copy)]
-pub enum Multiple {
-    Times(i64),
-    No,
-}
-
 // Which whole multiple of d is y? (d is not 0: of 0, 0 is every multiple.)
-pub fn multiple_of(y: Vector, d: Vector) -> Multiple
+pub fn multiple_of(y: Vector, d: Vector) -> Option<i64>
     requires { Sized limit (entries y) × Sized limit (entries d) × NonZero (entries d) }
     ensures { TellsMultiple (entries y) (entries d) result }
 {
@@ -31,18 +24,19 @@ pub fn multiple_of(y: Vector, d: Vector) -> Multiple
 }
 
 // The same, where a and b are the entries of y and d at one place and b is not 0: only a / b can be the multiple.
-fn quotient_tried(y: Vector, d: Vector, a: i64, b: i64) -> Multiple
+fn quotient_tried(y: Vector, d: Vector, a: i64, b: i64) -> Option<i64>
     requires sized { Sized limit (entries y) × Sized limit (entries d) × Size limit a × Size limit b }
     requires fact { (b ≡ pos 0 → ⊥) × ((z : ℤ) → entries y ≡ times_of z (entries d) → a ≡ z *ℤ b) }
     ensures { TellsMultiple (entries y) (entries d) result }
 {
     if a % b != 0 {
-        return Multiple::No;
+        return None;
     }
     let z = a / b;
-    if crate::vector::is_same(y, crate::vector::times(z, d)) {
-        Multiple::Times(z)
+    // (An `if`, since its two ends are two proofs.)
+    if y == crate::vector::times(z, d) {
+        Some(z)
     } else {
-        Multiple::No
+        None
     }
 }

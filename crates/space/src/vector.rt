@@ -4,8 +4,8 @@ ghost use Rattle.space.specs.Numbers.{Size, Tells, limit};
 ghost use Rattle.space.specs.Vectors.{entries, dot_of, plus_of, minus_of, times_of, Sized};
 ghost use Rattle.space.specs.Order.{Forward};
 
-// A vector: a point, a difference of points, or a row of a matrix. Unused entries are 0.
-#[derive(Clone, Copy)]
+// A vector: a point, a difference of points, or a row of a matrix. Unused entries are 0. (Four numbers: the form that document 01 names.) Its order is box order, the first entry most significant. (How large its entries are is a clause, `Sized`: a record holds any, so that 6, 7 and 8 can be the reply.)
+#[derive(Clone, Copy, PartialEq, Eq, PartialOrd, Ord)]
 pub struct Vector {
     pub x0: i64,
     pub x1: i64,
@@ -68,37 +68,9 @@ pub fn times(z: i64, v: Vector) -> Vector
     }
 }
 
-// Are p and q the same vector?
-pub fn is_same(p: Vector, q: Vector) -> bool
-    ensures { Tells (entries p ≡ entries q) result }
-{
-    if p.x0 != q.x0 {
-        return false;
-    }
-    if p.x1 != q.x1 {
-        return false;
-    }
-    if p.x2 != q.x2 {
-        return false;
-    }
-    if p.x3 != q.x3 {
-        return false;
-    }
-    true
-}
-
-// Is the first entry that is not 0 positive?
+// Is the first entry that is not 0 positive? That is, does v stand after the vector of zeros?
 pub fn is_forward(v: Vector) -> bool
     ensures { Tells (Forward (entries v)) result }
 {
-    if v.x0 != 0 {
-        return 0 < v.x0;
-    }
-    if v.x1 != 0 {
-        return 0 < v.x1;
-    }
-    if v.x2 != 0 {
-        return 0 < v.x2;
-    }
-    0 < v.x3
+    ZERO < v
 }

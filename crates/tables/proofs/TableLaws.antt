@@ -3,14 +3,14 @@ use mathlib.Core.Path.{◌≡◌, refl, sym, subst, ◌∙◌}
 use mathlib.Core.Logic.{⊎_elim}
 use mathlib.Core.Bool.{◌&&◌}
 use mathlib.Core.List.{List}
-use mathlib.Core.Option.{some}
+use Rattle.std.specs.Prelude.{Some}
 use Prim.Native.Nat.{ℕ, ◌+◌, ◌*◌, ◌<◌, ◌≤◌}
 use native.Mathlib.Decide.{ℕ_discrete}
 use native.Mathlib.Omega.{arith}
 use lib.Arith.{digits_lt}
 use lib.Dec.{eqb}
 use lib.ListN.{length, get_or, set, length-set}
-use lib.Seq.{get_or-set_same, get_or-set_other}
+use lib.Seq.{get_or-set_same}
 use borrow.Author.Count.{below_more}
 use Rattle.space.specs.Numbers.{Tells}
 use Rattle.space.proofs.Telling.{tells_and, tells_eq}
@@ -26,7 +26,7 @@ use Rattle.space.proofs.Rows.{other_spot, rows_same}
 
 -- ---- the point before one
 -- it stands before: d points forward
-pub previous_before : (j : Job) → Acceptable j → (s k q : ℕ) → s < j.m → k < points j → previous j s k ≡ some q → q < k
+pub previous_before : (j : Job) → Acceptable j → (s k q : ℕ) → s < j.m → k < points j → previous j s k ≡ Some q → q < k
 previous_before j a s k q ls lk e = back_before (box j) (along j s) k q (stream_sound j a s ls).forward refl lk e
 
 -- ---- tables
@@ -66,23 +66,10 @@ same_work j a s h f g e =
     same : (r : ℕ) {x y z x' y' z' : ℕ} → x ≡ x' → y ≡ y' → z ≡ z' → ruled r x y z ≡ ruled r x' y' z'
     same r e f g = rw (e, f, g)
 
--- the first s numbers of an array of four
-pub record Firsts (f : ℕ → ℕ) (got : List ℕ) (s : ℕ) : Type 0 where
-  pub four : length got ≡ 4
-  pub done : (u : ℕ) → u < s → get_or got u 0 ≡ f u
-
-pub firsts_step : {f : ℕ → ℕ} {got : List ℕ} {s : ℕ} (v : ℕ) → Firsts f got s → s < 4 → v ≡ f s → Firsts f (set got s v) (s + 1)
-firsts_step {f} {got} {s} v d ls ev = record {
-  four = length-set got s v ∙ d.four;
-  done = below_more (λ (u : ℕ). get_or (set got s v) u 0 ≡ f u) s (λ u lu. get_or-set_other got s u v 0 (λ e. omega arith) ∙ d.done u lu) (get_or-set_same got s v 0 (omega (arith, d.four)) ∙ ev);
-}
-
 -- ---- a column
-pub column_start : (j : Job) (k : ℕ) (got l : List ℕ) → length l ≡ j.m * points j → Column j k got l 0 l
-column_start j k got l e = record { size = e; here = λ s h. absurd (omega arith); others = λ s q ls lq ne. refl }
-
-pub column_step : (j : Job) (k : ℕ) (got l now : List ℕ) (s v : ℕ) → Column j k got l s now → s < j.m → k < points j → v ≡ work j s (λ (u : ℕ). get_or got u 0) → Column j k got l (s + 1) (set now (s * points j + k) v)
-column_step j k got l now s v c ls lk ev = record {
+-- the value of stream s is written at its place i
+pub column_step : (j : Job) (k : ℕ) (got l now : List ℕ) (s i v : ℕ) → Column j k got l s now → s < j.m → k < points j → i ≡ s * points j + k → v ≡ work j s (λ (u : ℕ). get_or got u 0) → Column j k got l (s + 1) (set now i v)
+column_step j k got l now s i v c ls lk e ev = rw e record {
   size = length-set now (s * points j + k) v ∙ c.size;
   here =
       below_more (λ (u : ℕ). entry_for j (set now (s * points j + k) v) u k ≡ work j u (λ (t : ℕ). get_or got t 0)) s

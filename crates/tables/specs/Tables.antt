@@ -1,6 +1,5 @@
 -- 'Tables hold stream by stream, points in box order, as u32.': how long they are, where an entry stands, and the point before one. (REFERENCE 4.4)
-use Rattle.std.specs.Prelude.{◌≡◌, List, ℕ, ◌+◌, ◌*◌, get_or}
-use Rattle.std.proofs.Math.Option.{Option}
+use Rattle.std.specs.Prelude.{◌≡◌, List, ℕ, ◌+◌, ◌*◌, get_or, Option}
 use Rattle.space.specs.Boxes.{back_of}
 use Rattle.job.specs.declared.record.Job.{Job}
 use Rattle.job.specs.Record.{box, along, points}

@@ -4,14 +4,14 @@ ghost use Rattle.tables.specs.Rows.{Row};
 
 use job::record::Job;
 
-// The row of stream s, or the empty part at the front.
+// The row of stream s, or the empty part at the front. (A part and no Option: document 01 names it.)
 pub fn row_of<'a>(j: Job, table: &'a [u32], s: u8) -> &'a [u32]
     ensures { Row j table.now s result.now }
 {
-    if job::limits::number(j) != 0 {
-        return &table[..0];
+    match job::limits::check(j) {
+        Ok(()) => row_within(j, table, s),
+        Err(_) => &table[..0],
     }
-    row_within(j, table, s)
 }
 
 // The same of a job that is within the limits.
@@ -26,7 +26,7 @@ pub fn row_within<'a>(j: Job, table: &'a [u32], s: u8) -> &'a [u32]
         return &table[..0];
     }
     let points = space::boxes::count(j.bounds) as usize;
-    let from = (s as usize) * points;
+    let from = usize::from(s) * points;
     let end = from + points;
     &table[from..end]
 }

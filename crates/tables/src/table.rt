@@ -1,14 +1,13 @@
 // The tables of a job: where an entry stands, the point before one, and the work at one point.
 ghost use Rattle.std.specs.Prelude.{◌≡◌, ℕ, ◌+◌, ◌*◌, ◌<◌, ◌≤◌};
 ghost use Rattle.space.specs.Vectors.{entries};
-ghost use Rattle.space.specs.Boxes.{In, point_of, found_of};
+ghost use Rattle.space.specs.Boxes.{In, point_of};
 ghost use Rattle.job.specs.Limits.{Acceptable};
 ghost use Rattle.job.specs.Record.{box, points as points_of};
 ghost use Rattle.tables.specs.Tables.{previous};
 ghost use Rattle.tables.specs.Columns.{Ready, Column};
 
 use job::record::Job;
-use space::boxes::Found;
 use space::vector::Vector;
 
 // Where a table of so many points holds the entry for stream s and the point at place k.
@@ -17,7 +16,7 @@ pub fn place_in_table(s: u8, points: u64, k: u64) -> usize
     ensures few { result ≤ 20480 }
     ensures is { result ≡ s * points + k }
 {
-    ((s as u64) * points + k) as usize
+    (u64::from(s) * points + k) as usize
 }
 
 // How many values a table of the job has.
@@ -30,26 +29,21 @@ pub fn size_of(j: Job) -> usize
 }
 
 // The place of the point before p, a point of the box, on stream s.
-pub fn previous_at(j: Job, s: u8, p: Vector) -> Found
+pub fn previous_at(j: Job, s: u8, p: Vector) -> Option<u64>
     requires { Acceptable j × (s < j.m) × In (box j) (entries p) }
-    ensures { (k : ℕ) → entries p ≡ point_of (box j) k → found_of result ≡ previous j s k }
+    ensures { (k : ℕ) → entries p ≡ point_of (box j) k → result ≡ previous j s k }
 {
     let stream = job::record::stream_at(j, s);
     space::boxes::back(j.bounds, stream.d, p)
 }
 
-// The work at the point at place k, from what came in there.
+// The work at the point at place k, from what came in there. (`Ready`, a table as long as the job asks, is a clause: a fact of two values.)
 pub fn put_column(j: Job, values: &mut [u32], points: u64, k: u64, got: [u32; 4])
     requires { Ready j values.old points × (k < points) }
     ensures { Column j k got values.old j.m values.new }
 {
-    let m = j.m;
-    let mut s: u8 = 0;
-    while s < m {
+    for s in 0..j.m {
         let t = job::record::stream_at(j, s);
-        let v = cell::new_value(t, s as usize, got);
-        let i = place_in_table(s, points, k);
-        values[i] = v;
-        s += 1;
+        values[place_in_table(s, points, k)] = cell::new_value(t, usize::from(s), got);
     }
 }

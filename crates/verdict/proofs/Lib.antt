@@ -1,3 +1,4 @@
+pub mod LowestStreams
 pub mod Courses
 pub mod Fits
 pub mod SizeLaws

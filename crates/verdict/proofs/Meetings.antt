@@ -1,24 +1,22 @@
 -- When two tokens meet: Hy and Sy as one vector are f times one hop, and no two f are. What the code's quotients by g come to.
-use mathlib.Core.Path.{◌≡◌, refl, sym, subst, ◌∙◌}
+use mathlib.Core.Path.{◌≡◌, refl, sym, ap, subst, ◌∙◌}
 use mathlib.Core.Logic.{inl, inr}
 use mathlib.Core.Bool.{Bool, true, false, ◌&&◌}
 use mathlib.Core.List.{List, [], ◌∷◌, ◌++◌}
-use Prim.Native.Nat.{ℕ, zero, suc, ◌<◌, ◌≤◌}
+use Prim.Native.Nat.{ℕ, zero, suc, max, ◌<◌, ◌≤◌}
 use native.Mathlib.Nat.{le_of_dvd}
 use native.Mathlib.Omega.{arith}
-use denote.Enum.Declared.{tag_of}
 use lib.Dec.{leb, ltb}
 use lib.IntN.{ℤ, pos, nat_abs, ◌*ℤ◌, *ℤ-zero}
 use lib.Signed.{quot_z}
+use Rattle.std.specs.Bool.{then_some}
 use Rattle.space.specs.Numbers.{Size, Tells, limit}
+use Rattle.space.specs.declared.vector.Vector.{Vector}
 use Rattle.space.specs.Vectors.{dot_of, entries, times_of, Sized, NonZero}
 use Rattle.space.specs.Divisors.{GcdOf}
-use Rattle.space.specs.Multiples.{TellsMultiple}
-use Rattle.space.specs.declared.multiple.Multiple.{Multiple}
-use Rattle.space.specs.contracts.multiple.Multiple.{the_type}
-use Rattle.space.proofs.Machine.{arg, quot}
+use Rattle.space.proofs.Machine.{Is, held, known, read, arg, quot}
 use Rattle.space.proofs.VectorLaws.{four, unfour, two, untwo}
-use Rattle.space.proofs.Telling.{tells_as, tells_and, tells_le, tells_below}
+use Rattle.space.proofs.Telling.{tells_and, tells_le, tells_below}
 use Rattle.space.proofs.MultipleLaws.{times_cancel}
 use Rattle.space.proofs.DivisorLaws.{gcd_unique, gcd_zero}
 use Rattle.job.specs.declared.record.Job.{Job}
@@ -28,27 +26,10 @@ use Rattle.job.specs.Record.{stream, along}
 use Rattle.verdict.specs.Mapping.{H, S, g, Stationary, or_one, hops, hop, delay}
 use Rattle.verdict.specs.Collisions.{IsCollision}
 use Rattle.verdict.specs.Courses.{time_and_place}
-use Rattle.verdict.specs.Searches.{CollidesBy}
-use Rattle.verdict.proofs.Courses.{hop_nonzero, g_is}
+use Rattle.verdict.specs.Searches.{CollidesBy, FindsHops}
+use Rattle.verdict.proofs.Courses.{hop_nonzero, hops_some, g_is}
 use Rattle.job.proofs.Accepting.{along_sized}
 use Rattle.verdict.proofs.Fits.{placed_sized}
-
--- ---- which multiple: the second variant is No, and no other is
-pub tag_none : (m : Multiple) → tag_of the_type m ≡ 1 → m ≡ Multiple.No
-tag_none (Multiple.Times z) e = absurd (omega arith)
-tag_none Multiple.No e = refl
-
-pub some_not_none : {m : Multiple} {z : ℤ} → m ≡ Multiple.Times z → m ≡ Multiple.No → ⊥
-some_not_none p q = let z : ◌≡◌ {A = ℕ} 0 1 = cc in omega arith
-
--- whether the answer is No tells whether y is no multiple
-pub none_tells : (y d : List ℤ) {r : Bool} (m : Multiple) → TellsMultiple y d m → Tells (m ≡ Multiple.No) r → Tells ((z : ℤ) → y ≡ times_of z d → ⊥) r
-none_tells y d (Multiple.Times z) p t = tells_as (λ e. absurd (some_not_none refl e)) (λ h. absurd (h z p)) t
-none_tells y d Multiple.No p t = tells_as (λ e. p) (λ h. refl) t
-
--- an answer in other words
-pub answers_as : {y v d u : List ℤ} {m k : Multiple} → y ≡ v → d ≡ u → m ≡ k → TellsMultiple y d m → TellsMultiple v u k
-answers_as e f h a = rw (e, f, h) at a
 
 -- ---- collisions, through and local, as the code tests them
 module _ (d y : List ℤ) (g : ℕ) (f : ℤ) where
@@ -66,6 +47,10 @@ gcd_small : {g : ℕ} (a b most : ℕ) → GcdOf (a ∷ b ∷ []) g → a ≤ mo
 gcd_small zero zero most p h k = let e = gcd_unique p (gcd_zero 0) in omega arith
 gcd_small zero (suc b) most p h k = let l = le_of_dvd (omega arith) p.divides.1.0 in omega arith
 gcd_small (suc a) b most p h k = let l = le_of_dvd (omega arith) p.divides.0 in omega arith
+
+or_one_is : (n : ℕ) → max n 1 ≡ or_one n
+or_one_is zero = refl
+or_one_is (suc n) = omega arith
 
 or_one_small : {most : ℕ} (n : ℕ) → 1 ≤ most → n ≤ most → or_one n ≤ most
 or_one_small zero h k = h
@@ -91,12 +76,34 @@ module _ (j : Job) (s : ℕ) (a : Acceptable j) (h : s < j.m) where
       part : {z : ℤ} → Size limit z → Size limit (quot_z z (pos (hops j s)))
       part p = (quot (arg p tt) (arg hops_sized tt)).sized
 
+-- ---- what the code works out of t, which is stream s: v, its Hd and Sd; n, the divisor of the sizes of Sd; and k, n or 1
+module _ (j : Job) (s : ℕ) (a : Acceptable j) (h : s < j.m) {t : Stream} {v : Vector} (same : t ≡ stream j s) (placed : entries v ≡ time_and_place j (entries t.d)) where
+  whole : entries v ≡ time_and_place j (along j s)
+  whole = placed ∙ ap (λ (t : Stream). time_and_place j (entries t.d)) same
+
+  pub time_is : Is limit (H j (along j s)) v.x0
+  time_is = known (unfour whole).0 (course_sized j s a h).each.0 tt
+
+  pub first_is : Is limit (dot_of (entries j.row0) (along j s)) v.x1
+  first_is = known (unfour whole).1 (course_sized j s a h).each.1.0 tt
+
+  pub second_is : Is limit (dot_of (entries j.row1) (along j s)) v.x2
+  second_is = known (unfour whole).2 (course_sized j s a h).each.1.1.0 tt
+
+  module _ {p q n : ℕ} (first : p ≡ nat_abs (held v.x1)) (second : q ≡ nat_abs (held v.x2)) (divides : GcdOf (p ∷ q ∷ []) n) where
+    -- n is g
+    pub divisor_is : n ≡ g j s
+    divisor_is = gcd_unique (rw (first ∙ ap nat_abs (read first_is), second ∙ ap nat_abs (read second_is)) at divides) (g_is j s)
+
+    -- k is the hops, which are some
+    pub steps_are : {k : ℕ} → k ≡ max n 1 → Is limit (pos (hops j s)) (pos k)
+    steps_are e = known (ap pos (e ∙ or_one_is n ∙ ap or_one divisor_is)) (hops_sized j s a h) tt
+
+pub steps_some : (j : Job) (s : ℕ) → pos (hops j s) ≡ pos 0 → ⊥
+steps_some j s e = hops_some j s (ap nat_abs e)
+
 -- ---- meetings
 module _ (j : Job) (s : ℕ) where
-  -- the divisor that is answered is g
-  pub g_answered : (a b n : ℕ) → a ≡ nat_abs (dot_of (entries j.row0) (along j s)) → b ≡ nat_abs (dot_of (entries j.row1) (along j s)) → GcdOf (a ∷ b ∷ []) n → n ≡ g j s
-  g_answered a b n e f p = gcd_unique (rw (e, f) at p) (g_is j s)
-
   -- a moving stream's unit is not 0
   pub unit_nonzero : (Stationary j s → ⊥) → NonZero (unit_of j s)
   unit_nonzero m = inr (more (hop j s) (hop_nonzero j s m))
@@ -127,6 +134,14 @@ module _ (j : Job) (s : ℕ) where
     not_met moving b k m =
         let one = times_cancel (unit_of j s) k f (unit_nonzero moving) (sym (apart_times y k m.place m.time) ∙ e) in
         told.fails b (subst (IsCollision (stream j s).kind (along j s) (g j s) y) one m.collide)
+
+    -- so f is answered exactly where it collides
+    pub hops_told : (Stationary j s → ⊥) → FindsHops j s y (then_some r f)
+    hops_told moving = by r refl
+      where
+        by : (b : Bool) → r ≡ b → FindsHops j s y (then_some b f)
+        by true e = met e
+        by false e = not_met moving e
 
   -- where no f is, they do not meet
   pub none_met : (y : List ℤ) → ((f : ℤ) → time_and_place j y ≡ times_of f (unit_of j s) → ⊥) → (f : ℤ) → CollidesBy j s y f → ⊥

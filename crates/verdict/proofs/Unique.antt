@@ -7,6 +7,7 @@ use Prim.Native.Nat.{ℕ, suc, ◌≤◌}
 use native.Mathlib.Omega.{arith}
 use native.Mathlib.Decide.{dec_le}
 use lib.Dec.{eqb}
+use Rattle.std.proofs.Common.{Result}
 use lib.ListN.{length}
 use lib.IntN.{ℤ}
 use Rattle.space.specs.declared.vector.Vector.{Vector}
@@ -27,7 +28,6 @@ use Rattle.verdict.specs.declared.judge.Extent.{Extent}
 use Rattle.verdict.specs.declared.judge.Pair.{Pair}
 use Rattle.verdict.specs.declared.judge.Collision.{Collision}
 use Rattle.verdict.specs.declared.numbers.InNumbers.{InNumbers}
-use Rattle.verdict.specs.declared.room.Room.{Room}
 use Rattle.verdict.specs.declared.judge.Verdict.{Verdict}
 use Rattle.verdict.specs.declared.judge.Verdict.TheVariants.{Accepted, Limit, Precedence, Hop, Cell, Link}
 
@@ -123,5 +123,5 @@ says_unique j v w s t =
     same j v (in_numbers w) s.claim (subst (Claims j) h t.claim) ∙ sym h
 
 -- the room count follows the verdict
-pub counts_unique : (Is : Verdict → Type 0) → ((v w : Verdict) → Is v → Is w → v ≡ w) → (r r' : Room) → Counts Is r → Counts Is r' → r ≡ r'
+pub counts_unique : (Is : Verdict → Type 0) → ((v w : Verdict) → Is v → Is w → v ≡ w) → (r r' : Result ℕ Verdict) → Counts Is r → Counts Is r' → r ≡ r'
 counts_unique Is one r r' p q = p.2 ∙ ap room_of (one p.0 q.0 p.1 q.1) ∙ sym q.2

@@ -8,19 +8,14 @@ ghost use Rattle.verdict.specs.Rules.{Ahead, All};
 use crate::judge::Extent;
 use job::record::Job;
 
-// The sum of the w.
+// The sum of the w. (A `for`: each step has to fit, and the bound of it is that of so many delays.)
 fn all_delays(j: Job) -> u64
     requires { Acceptable j × All Ahead j }
     ensures { result ≡ delays j j.m }
 {
-    let m = j.m;
-    let mut s: u8 = 0;
-    let mut sum: u64 = 0;
-    while s < m {
-        let c = crate::course::course_of(j, s);
-        let unit = c.unit;
-        sum += space::divisor::size(unit.x0);
-        s += 1;
+    let mut sum = 0;
+    for s in 0..j.m {
+        sum += crate::course::course_of(j, s).unit.x0.unsigned_abs();
     }
     sum
 }
@@ -30,10 +25,9 @@ pub fn extent_of(j: Job) -> Extent
     requires { Acceptable j × All Ahead j }
     ensures { ExtentOf j result }
 {
-    let b = j.bounds;
-    let rows = space::boxes::reach_of(j.row0, b);
-    let columns = space::boxes::reach_of(j.row1, b);
-    let clock = space::boxes::reach_of(j.time, b);
+    let rows = space::boxes::reach_of(j.row0, j.bounds);
+    let columns = space::boxes::reach_of(j.row1, j.bounds);
+    let clock = space::boxes::reach_of(j.time, j.bounds);
     let cells = rows.count * columns.count;
     Extent {
         cells,

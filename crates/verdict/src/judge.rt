@@ -1,9 +1,12 @@
 // The verdict on a job: accepted with its extent, or the first broken rule with its stream and its first pair.
+ghost use Rattle.std.specs.Prelude.{◌≡◌};
+ghost use Rattle.job.specs.Refusals.{number_of};
 ghost use Rattle.job.specs.Limits.{Acceptable};
 ghost use Rattle.verdict.specs.Verdicts.{Says};
+ghost use Rattle.verdict.specs.declared.judge.Verdict.TheVariants.{Limit};
 
-use crate::rules::{FoundCollision, FoundPair, FoundStream};
 use job::record::Job;
+use job::refusal::Refusal;
 use space::vector::Vector;
 
 // How many cells and ticks an accepted array has, and how many register places.
@@ -39,6 +42,7 @@ pub struct Collision {
 #[derive(Clone, Copy)]
 pub enum Verdict {
     Accepted(Extent),
+    // A number: document 01 names these variants, and in_numbers and the reply's line answer for every number.
     Limit(u8),
     Precedence(u8),
     Hop(u8),
@@ -46,15 +50,22 @@ pub enum Verdict {
     Link(Collision),
 }
 
+impl From<Refusal> for Verdict {
+    ghost from_gives = { λ why v. v ≡ Limit (number_of why) };
+
+    fn from(why: Refusal) -> Verdict {
+        Verdict::Limit(u8::from(why))
+    }
+}
+
 // The verdict on a record.
 pub fn verdict_of(j: Job) -> Verdict
     ensures { Says j result }
 {
-    let number = job::limits::number(j);
-    if number != 0 {
-        return Verdict::Limit(number);
+    match job::limits::check(j) {
+        Ok(()) => judged(j),
+        Err(why) => Verdict::from(why),
     }
-    judged(j)
 }
 
 // The verdict on a record that keeps the limits: its first broken rule, or accepted.
@@ -62,21 +73,17 @@ pub fn judged(j: Job) -> Verdict
     requires { Acceptable j }
     ensures { Says j result }
 {
-    let late = crate::rules::late(j);
-    if let FoundStream::At(s) = late {
+    if let Some(s) = crate::rules::late(j) {
         return Verdict::Precedence(s);
     }
-    let uneven = crate::rules::uneven(j);
-    if let FoundStream::At(s) = uneven {
+    if let Some(s) = crate::rules::uneven(j) {
         return Verdict::Hop(s);
     }
-    let shared_cell = crate::rules::shared_cell(j);
-    if let FoundPair::At(c) = shared_cell {
-        return Verdict::Cell(c);
+    if let Some(pair) = crate::rules::shared_cell(j) {
+        return Verdict::Cell(pair);
     }
-    let collision = crate::rules::first_collision(j);
-    if let FoundCollision::At(c) = collision {
-        return Verdict::Link(c);
+    if let Some(collision) = crate::rules::first_collision(j) {
+        return Verdict::Link(collision);
     }
     Verdict::Accepted(crate::extents::extent_of(j))
 }

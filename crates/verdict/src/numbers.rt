@@ -4,7 +4,7 @@ ghost use Rattle.verdict.specs.Verdicts.{in_numbers};
 
 use crate::judge::{Extent, NO_EXTENT, Pair, Verdict};
 
-// The number of refusal, 0 for accepted, and what is returned besides: zeros where the table lists nothing.
+// The number of refusal, 0 for accepted, and what is returned besides: zeros where the table lists nothing. (Numbers, since that is what C gets.)
 #[derive(Clone, Copy)]
 pub struct InNumbers {
     pub number: u8,
@@ -46,15 +46,12 @@ pub fn in_numbers(v: Verdict) -> InNumbers
             pair,
             ..none
         },
-        Verdict::Link(c) => {
-            let pair = c.pair;
-            InNumbers {
-                number: 12,
-                stream: c.stream,
-                pair,
-                hops: c.hops,
-                ..none
-            }
-        }
+        Verdict::Link(c) => InNumbers {
+            number: 12,
+            stream: c.stream,
+            pair: c.pair,
+            hops: c.hops,
+            ..none
+        },
     }
 }

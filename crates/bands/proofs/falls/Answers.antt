@@ -19,11 +19,11 @@ returns-then-b-ne0 c =
     let b = c.args.b in
     let f = fit (arg c.requires.rows tt) in
     let ne : up b.hop0 ≡ down b.hop0 → ⊥ = λ e. c.if-b-ne0.true (ap (of_z w64) (zero b.hop0 e)) in
-    record { down = λ e r x y lx g. goes_down b r x y lx g (inl (omega tests)); up = λ e r x y lx g. goes_up b r x y lx g (inl (omega tests)) }
+    record { down = λ e s t x y lx g. goes_down b s t x y lx g (inl (omega tests)); up = λ e s t x y lx g. goes_up b s t x y lx g (inl (omega tests)) }
 
 pub returns : goal.returns
 returns c =
     let b = c.args.b in
     let f = fit (arg c.requires.columns tt) in
     let z = zero_bits (fit (arg c.requires.rows tt)) c.if-b-ne0.false in
-    record { down = λ e r x y lx g. goes_down b r x y lx g (inr (z, omega tests)); up = λ e r x y lx g. goes_up b r x y lx g (inr (z, omega tests)) }
+    record { down = λ e s t x y lx g. goes_down b s t x y lx g (inr (z, omega tests)); up = λ e s t x y lx g. goes_up b s t x y lx g (inr (z, omega tests)) }

@@ -1,14 +1,13 @@
--- The reader's refusal has no row; else the row of the job that it read.
-use mathlib.Core.Path.{refl, subst}
+-- The row of the job that was read, or none.
+use mathlib.Core.Path.{refl}
 use mathlib.Core.Logic.{inl, inr}
-use Rattle.reader.specs.Reading.{Reads}
 use Rattle.calls.proofs.row_of_bytes.Goals as goal
 
 pub row_within-requires : goal.row_within-requires
-row_within-requires c = let job = subst (Reads _) c.in-Job.is c.read-read.ensures in job.0
+row_within-requires c = c.in-Ok.ensures.0
 
-pub returns-in-Refused : goal.returns-in-Refused
-returns-in-Refused c = inl (_, subst (Reads _) c.in-Refused.is c.read-read.ensures, refl)
+pub returns-in-Ok : goal.returns-in-Ok
+returns-in-Ok c = inr (_, c.in-Ok.ensures, c.row_within.ensures)
 
-pub returns-in-Job : goal.returns-in-Job
-returns-in-Job c = inr (_, subst (Reads _) c.in-Job.is c.read-read.ensures, c.row_within.ensures)
+pub returns-in-Err : goal.returns-in-Err
+returns-in-Err c = inl (_, c.in-Err.ensures, refl)

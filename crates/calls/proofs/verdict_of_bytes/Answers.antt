@@ -1,14 +1,12 @@
--- The reader's refusal, or the verdict on the job that it read.
-use mathlib.Core.Path.{refl, subst}
+-- The verdict on the job that was read, or the reader's refusal.
 use mathlib.Core.Logic.{inl, inr}
-use Rattle.reader.specs.Reading.{Reads}
 use Rattle.calls.proofs.verdict_of_bytes.Goals as goal
 
 pub judged-requires : goal.judged-requires
-judged-requires c = let job = subst (Reads _) c.in-Job.is c.read-read.ensures in job.0
+judged-requires c = c.in-Ok.ensures.0
 
-pub returns-in-Refused : goal.returns-in-Refused
-returns-in-Refused c = inl (_, subst (Reads _) c.in-Refused.is c.read-read.ensures, refl)
+pub returns-in-Ok : goal.returns-in-Ok
+returns-in-Ok c = inr (_, c.in-Ok.ensures, c.judged.ensures)
 
-pub returns-in-Job : goal.returns-in-Job
-returns-in-Job c = inr (_, subst (Reads _) c.in-Job.is c.read-read.ensures, c.judged.ensures)
+pub returns-in-Err : goal.returns-in-Err
+returns-in-Err c = inl (_, c.in-Err.ensures, c.from.ensures)

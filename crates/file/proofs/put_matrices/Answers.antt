@@ -12,10 +12,6 @@ use Rattle.file.proofs.put_matrices.Goals as goal
 pub loop-i-init : goal.loop-i-init
 loop-i-init c = (omega arith, none _ _)
 
-pub row_at-requires : goal.row_at-requires
-row_at-requires c =
-    omega (arith, c.loop-i-test.true, c.requires.0.shaped.places)
-
 pub put_vector-next-requires : goal.put_vector-next-requires
 unfolding matrix_bytes
 put_vector-next-requires c =

@@ -11,10 +11,6 @@ use Rattle.file.proofs.put_streams.Goals as goal
 pub loop-i-init : goal.loop-i-init
 loop-i-init c = (omega arith, none _ _)
 
-pub stream_at-requires : goal.stream_at-requires
-stream_at-requires c =
-    omega (arith, c.loop-i-test.true, c.requires.0.shaped.streams)
-
 pub put_stream-next-requires : goal.put_stream-next-requires
 unfolding streams_bytes
 put_stream-next-requires c =

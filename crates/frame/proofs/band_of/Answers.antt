@@ -11,10 +11,10 @@ pub returns : goal.returns
 returns c =
     let j = c.args.j in
     let s = c.args.s in
-    let u = unfour c.course_of-c.ensures.unit in
+    let u = unfour c.course_of.ensures.unit in
     let z = (unit_sized j s c.requires.0.acceptable c.requires.1).each in
     record {
       begin = c.requires.2;
-      delay = c.size.ensures ∙ ap nat_abs (held_as u.0 z.0 tt) ∙ delay_up j s (c.requires.0.ahead s c.requires.1);
+      delay = c.unsigned_abs.ensures.value ∙ ap nat_abs (held_as u.0 z.0 tt) ∙ delay_up j s (c.requires.0.ahead s c.requires.1);
       hop = two (held_as u.1 z.1.0 tt) (held_as u.2 z.1.1.0 tt);
     }

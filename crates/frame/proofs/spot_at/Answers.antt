@@ -5,7 +5,7 @@ use Rattle.space.proofs.BoxLaws.{stands_in}
 use Rattle.frame.proofs.spot_at.Goals as goal
 
 pub point-p-requires : goal.point-p-requires
-point-p-requires c = let w = walkable c.requires.0.runnable.acceptable in (w.0, w.1, c.requires.1)
+point-p-requires c = let w = walkable c.requires.0.runnable.acceptable in (w, c.requires.1)
 
 pub cell_at-requires : goal.cell_at-requires
 cell_at-requires c = (c.requires.0, stands_in _ c.args.k c.requires.1 c.point-p.ensures)

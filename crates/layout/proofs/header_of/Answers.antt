@@ -4,4 +4,4 @@ use Rattle.layout.proofs.header_of.Goals as goal
 
 pub returns : goal.returns
 unfolding header_of
-returns c = cc
+returns c = rw (c.to_le_bytes-streams.ensures, c.to_le_bytes-matrices.ensures, c.to_le_bytes-total.ensures) cc

@@ -12,4 +12,4 @@ returns-in-Accepted c = sym (ap (λ (v : Verdict). (lead v).value) c.in-Accepted
 
 pub returns-in_default : goal.returns-in_default
 returns-in_default c =
-    ap (λ (a : InNumbers). pos a.number) c.in_numbers.ensures ∙ ap (λ (f : Field). f.value) (not_accepted c.args.v c.in_default.not-Accepted)
+    ap pos c.from.ensures ∙ ap (λ (a : InNumbers). pos a.number) c.in_numbers.ensures ∙ ap (λ (f : Field). f.value) (not_accepted c.args.v c.in_default.not-Accepted)

@@ -21,18 +21,18 @@ plus : {x : ℤ} {n : ℕ} → SFits w64 x → lt_z (held x) (pos 0) ≡ false �
 plus {x} fits t e = decimal_held fits ∙ decimal_plus (held x) t ∙ ap (digits 20) (sym e)
 
 pub put_bytes-next-requires : goal.put_bytes-next-requires
-put_bytes-next-requires c = first (45 ∷ []) _ (fits_as (minus c.ranges.x (cc) c.size-size.ensures) c.requires)
+put_bytes-next-requires c = first (45 ∷ []) _ (fits_as (minus c.ranges.x (cc) c.unsigned_abs-size.ensures.value) c.requires)
 
 pub put_digits-requires : goal.put_digits-requires
-put_digits-requires c = left (45 ∷ []) _ (fits_as (minus c.ranges.x (cc) c.size-size.ensures) c.requires) c.put_bytes-next.ensures
+put_digits-requires c = left (45 ∷ []) _ (fits_as (minus c.ranges.x (cc) c.unsigned_abs-size.ensures.value) c.requires) c.put_bytes-next.ensures
 
 pub returns-then-x-lt0 : goal.returns-then-x-lt0
 returns-then-x-lt0 c =
-    let e = minus c.ranges.x (cc) c.size-size.ensures in
+    let e = minus c.ranges.x (cc) c.unsigned_abs-size.ensures.value in
     put_as e (and_then c.put_bytes-next.ensures (first (45 ∷ []) _ (fits_as e c.requires)) c.put_digits.ensures)
 
 pub put_digits-requires-2 : goal.put_digits-requires-2
-put_digits-requires-2 c = fits_as (plus c.ranges.x (cc) c.size-size.ensures) c.requires
+put_digits-requires-2 c = fits_as (plus c.ranges.x (cc) c.unsigned_abs-size.ensures.value) c.requires
 
 pub returns : goal.returns
-returns c = put_as (plus c.ranges.x (cc) c.size-size.ensures) c.put_digits-2.ensures
+returns c = put_as (plus c.ranges.x (cc) c.unsigned_abs-size.ensures.value) c.put_digits-2.ensures

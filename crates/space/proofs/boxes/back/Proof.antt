@@ -2,7 +2,7 @@
 use mathlib.Core.Path.{◌≡◌, ap, subst, ◌∙◌}
 use mathlib.Core.Bool.{true, false}
 use mathlib.Core.List.{List}
-use mathlib.Core.Option.{some}
+use Rattle.std.specs.Prelude.{Some}
 use Prim.Native.Nat.{ℕ}
 use native.Mathlib.Omega.{arith}
 use lib.IntN.{ℤ}
@@ -20,8 +20,8 @@ minus-q-requires : tie.Need-minus-q-requires
 minus-q-requires c κs =
     let b = c.args.b in
     let p = c.requires in
-    let there : Sized limit (entries c.args.p) = sized_up (omega arith) (inside_sized b p.0 p.1 p.3) in
-    let along : Sized limit (entries c.args.d) = sized_up (omega arith) p.2 in
+    let there : Sized limit (entries c.args.p) = sized_up (omega arith) (inside_sized b p.0.0 p.0.1 p.2) in
+    let along : Sized limit (entries c.args.d) = sized_up (omega arith) p.1 in
     (search (there, along), search (there, along))
 
 contains-requires : tie.Need-contains-requires
@@ -34,14 +34,14 @@ asked c k e = c.minus-q.ensures ∙ ap (λ (x : List ℤ). minus_of x (entries c
 place-requires : tie.Need-place-requires
 place-requires c κs =
     let p = c.before.before.before.requires in
-    (p.0, p.1, c.before.contains.ensures.holds c.if-contains.true)
+    (p.0, c.before.contains.ensures.holds c.if-contains.true)
 
 returns-then-contains : tie.Need-returns-then-contains
 returns-then-contains c k e =
     let after_minus_q = c.before.before.before in
     let a = c.before.before.before.before.args in
     let y = entries c.before.before.before.minus-q.result in
-    ap some c.place.ensures ∙ back_told (box_of a.b) (entries a.d) k y true (asked after_minus_q k e) (subst (Tells (In (box_of a.b) y)) c.before.if-contains.true c.before.before.contains.ensures)
+    ap Some c.place.ensures ∙ back_told (box_of a.b) (entries a.d) k y true (asked after_minus_q k e) (subst (Tells (In (box_of a.b) y)) c.before.if-contains.true c.before.before.contains.ensures)
 
 returns-else-contains : tie.Need-returns-else-contains
 returns-else-contains c k e =

@@ -21,15 +21,15 @@ times-requires : tie.Need-times-requires
 times-requires c κs = search rules
 
 opposite : (c : tie.After-times) → Sized limit (entries c.times.result)
-opposite c = subst (Sized limit) (sym c.times.ensures) (times_sized minus_one c.before.requires.0)
+opposite c = subst (Sized limit) (sym c.times.ensures) (times_sized minus_one c.before.requires.1)
 
 least-requires : tie.Need-least-requires
-least-requires c κs = let p = c.before.requires in (opposite c, p.1, p.2, p.3)
+least-requires c κs = let p = c.before.requires in (p.0, opposite c, p.2)
 
 turned : (c : tie.After-least) → Is (4 * (limit * limit)) (pos 0 -ℤ c.least.result) (pos 0 -ℤ held c.least.result)
 turned c =
     let s = c.before.before in
-    sub (lit 0 tt) (arg (least_size limit (opposite c.before) (sides_sized s.args.b s.requires.1 s.requires.2) c.least.ensures) tt) tt
+    sub (lit 0 tt) (arg (least_size limit (opposite c.before) (sides_sized s.args.b s.requires.0.0 s.requires.0.1) c.least.ensures) tt) tt
 
 overflow_sub-result : tie.Need-overflow_sub-result
 overflow_sub-result c = fit (turned c)

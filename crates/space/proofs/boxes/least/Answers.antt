@@ -7,11 +7,11 @@ use Rattle.space.proofs.BoxLaws.{inside_sized}
 use Rattle.space.proofs.boxes.least.Goals as goal
 
 pub least_corner-requires : goal.least_corner-requires
-least_corner-requires c = c.requires.3
+least_corner-requires c = c.requires.2
 
 pub dot-requires : goal.dot-requires
 dot-requires c =
-    (c.requires.0, inside_sized c.args.b c.requires.1 c.requires.2 c.least_corner.ensures.inside)
+    (c.requires.1, inside_sized c.args.b c.requires.0.0 c.requires.0.1 c.least_corner.ensures.inside)
 
 pub returns : goal.returns
 returns c =

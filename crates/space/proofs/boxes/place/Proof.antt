@@ -18,13 +18,13 @@ use Rattle.space.proofs.boxes.place.Tie as tie
 
 module _ (s : tie.Start) where
   sized : Sized difference (entries s.args.p)
-  sized = inside_sized s.args.b s.requires.0 s.requires.1 s.requires.2
+  sized = inside_sized s.args.b s.requires.0.0 s.requires.0.1 s.requires.1
 
 lengths-n-requires : tie.Need-lengths-n-requires
 lengths-n-requires c κs = search rules
 
 steps_each-o-requires : tie.Need-steps_each-o-requires
-steps_each-o-requires c κs = (sized_up (omega arith) c.before.before.requires.0, sized_up (omega arith) (sized c.before.before))
+steps_each-o-requires c κs = (sized_up (omega arith) c.before.before.requires.0.0, sized_up (omega arith) (sized c.before.before))
 
 -- the most steps along a side
 abbrev far : ℕ
@@ -34,7 +34,7 @@ far = difference + difference
 small_lengths : (c : tie.After-steps_each-o) → (c.before.before.lengths-n.result.n0 ≤ side_limit) × (c.before.before.lengths-n.result.n1 ≤ side_limit) × (c.before.before.lengths-n.result.n2 ≤ side_limit) × (c.before.before.lengths-n.result.n3 ≤ side_limit)
 small_lengths c =
     let start = c.before.before.before in
-    let s = start in lengths_small c.before.before.lengths-n.result s.args.b c.before.before.lengths-n.ensures s.requires.0 s.requires.1
+    let s = start in lengths_small c.before.before.lengths-n.result s.args.b c.before.before.lengths-n.ensures s.requires.0.0 s.requires.0.1
 
 small_steps : (c : tie.After-steps_each-o) → (c.steps_each-o.result.n0 ≤ far) × (c.steps_each-o.result.n1 ≤ far) × (c.steps_each-o.result.n2 ≤ far) × (c.steps_each-o.result.n3 ≤ far)
 unfolding zip_with
@@ -42,7 +42,7 @@ small_steps c =
     let start = c.before.before.before in
     let s = start in
     let o = unfour c.steps_each-o.ensures in
-    let l = s.requires.0.each in
+    let l = s.requires.0.0.each in
     let p = (sized s).each in (
       rw o.0 (steps_size _ _ l.0 p.0),
       rw o.1 (steps_size _ _ l.1.0 p.1.0),

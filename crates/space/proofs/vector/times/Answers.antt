@@ -1,27 +1,14 @@
 -- Each product of z and an entry fits.
 use Prim.Native.Nat.{◌*◌}
-use borrow.Author.Rules.{rules}
 use lib.IntN.{ℤ, ◌*ℤ◌}
 use Rattle.space.specs.Numbers.{Size, limit}
 use Rattle.space.specs.Vectors.{times_of}
-use Rattle.space.proofs.Machine.{Is, held, arg, mul, read, signed}
+use Rattle.space.proofs.Machine.{Is, held, arg, mul, read}
 use Rattle.space.proofs.VectorLaws.{four}
 use Rattle.space.proofs.vector.times.Goals as goal
 
 one : {x y : ℤ} → Size limit x → Size limit y → Is (limit * limit) (x *ℤ y) (held x *ℤ held y)
 one p q = mul (arg p tt) (arg q tt) tt
-
-pub overflow_mul-result : goal.overflow_mul-result
-overflow_mul-result c = search (rules, signed)
-
-pub overflow_mul-result-2 : goal.overflow_mul-result-2
-overflow_mul-result-2 c = search (rules, signed)
-
-pub overflow_mul-result-3 : goal.overflow_mul-result-3
-overflow_mul-result-3 c = search (rules, signed)
-
-pub overflow_mul-result-4 : goal.overflow_mul-result-4
-overflow_mul-result-4 c = search (rules, signed)
 
 pub returns : goal.returns
 unfolding times_of

@@ -13,7 +13,7 @@ back-requires c =
     let a = c.args in
     let p = c.requires in
     let w = walkable p.0 in
-    (w.0, w.1, subst (λ (t : Stream). Sized difference (entries t.d)) (sym c.stream_at-stream.ensures) (along_sized a.j p.0 a.s p.1), p.2)
+    (w, subst (λ (t : Stream). Sized difference (entries t.d)) (sym c.stream_at-stream.ensures) (along_sized a.j p.0 a.s p.1), p.2)
 
 pub returns : goal.returns
 returns c =

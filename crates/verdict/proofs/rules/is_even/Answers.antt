@@ -24,12 +24,9 @@ returns-then-course-eq0 c =
     let s = c.args in
     record { holds = λ t m. absurd (m (none_stationary s.j s.s (sym c.course_of-course.ensures.hops ∙ c.if-course-eq0.true))); fails = λ t. never t }
 
-pub stream_at-t-requires : goal.stream_at-t-requires
-stream_at-t-requires c = let m = c.requires.0.shaped.streams in omega (arith, c.requires.1)
-
 pub dot-requires : goal.dot-requires
 dot-requires c =
-    time_along c.args.j c.requires.0 c.args.s c.requires.1 c.stream_at-t.ensures
+    time_along c.args.j c.requires.0 c.args.s c.requires.1 c.stream_at.ensures
 
 pub nonzero_rem-result : goal.nonzero_rem-result
 nonzero_rem-result c =
@@ -46,4 +43,4 @@ divides j s n k z e h =
 pub returns : goal.returns
 returns c =
     divides c.args.j c.args.s _ _ c.if-course-eq0.false c.course_of-course.ensures.hops
-    (size_read (rw c.stream_at-t.ensures at c.dot.ensures) (in_range c.dot.type_inv) c.size.ensures)
+    (size_read (rw c.stream_at.ensures at c.dot.ensures) (in_range c.dot.type_inv) c.unsigned_abs.ensures.value)

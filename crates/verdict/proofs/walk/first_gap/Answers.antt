@@ -9,4 +9,4 @@ use Rattle.verdict.proofs.walk.first_gap.Goals as goal
 pub returns : goal.returns
 returns c =
     let D = box_of c.args.b in
-    c.next.ensures (place_of D (entries zero_vector)) (sym (point_place D (entries zero_vector) c.requires.2))
+    c.next.ensures (place_of D (entries zero_vector)) (sym (point_place D (entries zero_vector) c.requires.1))

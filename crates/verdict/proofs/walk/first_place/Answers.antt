@@ -11,4 +11,4 @@ pub overflow_add-result : goal.overflow_add-result
 overflow_add-result c =
     let b = c.args.b in
     let p = c.requires in
-    record { fits = omega (arith, count_most (box_of b) (sides_sized b p.0 p.1), place_below (box_of b) (entries zero_vector) p.2) }
+    record { fits = omega (arith, count_most (box_of b) (sides_sized b p.0.0 p.0.1), place_below (box_of b) (entries zero_vector) p.1) }

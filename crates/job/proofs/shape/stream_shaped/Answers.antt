@@ -1,8 +1,0 @@
--- By the flag: a stream that is used is asked from n on, another whether it is idle.
-use Rattle.space.proofs.Telling.{tells_and, tells_where, tells_unless, tells_flag}
-use Rattle.job.proofs.shape.stream_shaped.Goals as goal
-
-pub returns : goal.returns
-returns c =
-    tells_and _ _ (tells_where _ _ (tells_flag _) c.is_unused.ensures)
-    (tells_unless _ _ (tells_flag _) c.is_idle.ensures)

@@ -1,8 +1,0 @@
--- The number and the count of the loop of the bytes.
-use mathlib.Core.Path.{ap, ◌∙◌}
-use Rattle.najluthed.specs.Calls.{done}
-use Rattle.najluthed.proofs.najluthed_loop.Goals as goal
-
-pub returns : goal.returns
-returns c =
-    (_, c.loop_of_bytes-r.ensures, c.done_of.ensures ∙ ap done c.counted.ensures)
