@@ -41,7 +41,7 @@ pub fn point_judged(j: Job, v: Verdict, t: u64, x: u64) -> Result<Option<Vector>
     }
 }
 
-// The number and the point of a look-up.
+// The number and the point of a look-up. (No `From`: it would say less than the name.)
 pub fn in_numbers(l: Result<Option<Vector>, Verdict>) -> Looked
     ensures { result ≡ looked_of l }
 {
@@ -56,7 +56,7 @@ pub fn in_numbers(l: Result<Option<Vector>, Verdict>) -> Looked
     }
 }
 
-// No point, with a number of refusal.
+// No point, with a number of refusal, as C gets it.
 fn nothing(number: u8) -> Looked
     ensures { result ≡ unfound number }
 {

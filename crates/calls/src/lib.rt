@@ -65,7 +65,7 @@ fn measured(j: Job) -> Measures
     }
 }
 
-// The measures of bytes that are refused: there are none.
+// The measures of bytes that are refused, by their number, as C gets it: there are none.
 fn refused(number: u8) -> Measures
     ensures { result ≡ no_measures number }
 {

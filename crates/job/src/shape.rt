@@ -67,7 +67,7 @@ fn row_shaped(v: Vector, n: u8, used: bool) -> bool
     }
 }
 
-// The same of every row.
+// The same of every row. (Beside `streams_shaped`, as `row_shaped` beside `stream_shaped`.)
 fn rows_shaped(j: Job) -> bool
     ensures { Tells (Firsts (Unused j.n) (1 + j.k) (rows_of j) × Others (Unused 0) (1 + j.k) (rows_of j)) result }
 {

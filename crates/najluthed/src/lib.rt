@@ -10,7 +10,7 @@ use array::lookup::Looked;
 use checks::Work;
 use job::numbers::{Counted, numbered};
 
-// The number of refusal, 0 for accepted; stream and hops are 0 where the table lists none.
+// The number of refusal, 0 for accepted; stream and hops are 0 where the table lists none. (Numbers, here and below, since that is what C gets.)
 #[repr(C)]
 #[derive(Clone, Copy)]
 pub struct Judged {
@@ -40,7 +40,7 @@ pub struct Sizes {
     pub room: u64,
 }
 
-// The number of refusal, 0 for none; whether there is a point, 1 or 0; and its coordinates, 0 where there is none. (A flag and a number, since C has no Option.)
+// The number of refusal, 0 for none; whether there is a point, 1 or 0; and its coordinates, 0 where there is none. (A flag and a number, since C has no Option; four coordinates by field, C's layout.)
 #[repr(C)]
 #[derive(Clone, Copy)]
 pub struct PointReply {

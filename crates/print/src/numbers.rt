@@ -30,7 +30,7 @@ fn put_digits(out: &mut [u8], at: usize, f: usize, n: u64) -> usize
     k + 1
 }
 
-// A signed number.
+// A signed number. (By hand, as `put_digits`.)
 fn put_signed(out: &mut [u8], at: usize, x: i64) -> usize
     requires { Fits out.old at (decimal x) }
     ensures { Put out.old at (decimal x) result out.new }

@@ -15,7 +15,7 @@ fn say<W: Write>(out: &mut W, text: &[u8]) -> io::Result<()> {
     out.write_all(text)
 }
 
-// Whether writing the job gives the bytes that it was read from.
+// Whether writing the job gives the bytes that it was read from. (Fixed memory: there is no heap.)
 fn is_written_back(j: Job, s: &[u8]) -> bool {
     let mut buffer = [170u8; 80];
     match writer::write(&mut buffer, j) {

@@ -151,7 +151,7 @@ fn sized<W: Write>(
     compare(out, j, front(&input, inputs), part(&mut run, n), lent)
 }
 
-// A rule on the matrices, and every third value of stream 2, the last of each sum: the result, row by row.
+// A rule on the matrices, and every third value of stream 2, the last of each sum: the result, row by row. (The rule is a number, here and below: see `jobs`.)
 fn product<W: Write>(
     out: &mut W,
     title: &[u8],

@@ -14,7 +14,7 @@ pub struct InNumbers {
     pub extent: Extent,
 }
 
-// The number and the values of a verdict.
+// The number and the values of a verdict. (No `From`: it would say less than the name.)
 pub fn in_numbers(v: Verdict) -> InNumbers
     ensures { result ≡ in_numbers v }
 {
