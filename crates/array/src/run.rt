@@ -9,7 +9,7 @@ use frame::Frame;
 use job::record::Job;
 use verdict::judge::Verdict;
 
-// The run of a record: the first R places cleared, then every tick in order. (Run and tick are two names that the document gives to one function, `work_out`.)
+// The run of a record: the first R places cleared, then every tick in order. (The document has run and tick as two calls; both are `work_out`.)
 pub fn run_of(j: Job, input: &[u32], values: &mut [u32], places: &mut [u32]) -> Result<u64, Undone>
     ensures { Runs j input.now values.old places.old values.new places.new result }
 {

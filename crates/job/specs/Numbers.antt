@@ -1,4 +1,4 @@
--- Replies in numbers: 'No.' and 'Comes with'. (REFERENCE 5.1)
+-- Replies in numbers: 'No.' and 'Returns besides'. (REFERENCE 5.1)
 use Rattle.std.specs.Prelude.{ℕ, Result, Ok, Err}
 use Rattle.job.specs.declared.numbers.Counted.{Counted}
 

@@ -18,7 +18,7 @@ total_for j = total_of 1 j.n j.k j.m
 abbrev pub write_checks : Job → ℕ → Checks
 write_checks j room = and_then (limits j) (check 17 (total_for j ≤ room) done)
 
--- 'No.' and 'Comes with'
+-- 'No.' and 'Returns besides'
 abbrev pub in_numbers : Unwritten → Counted
 in_numbers (Refused r) = record { number = r; count = 0 }
 in_numbers (Short t) = record { number = 17; count = t }
