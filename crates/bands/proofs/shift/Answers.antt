@@ -46,7 +46,9 @@ offset_bounds-places-i c =
     omega arith
 
 pub bounds-places-i : goal.bounds-places-i
-bounds-places-i c = is_place c.loop-k.k c.falls-down.result (lent_as c.requires.0 c.loop-k.invariant.size) c.turn-x.ensures c.requires.1 c.loop-k-test.true
+bounds-places-i c =
+    let i = is_place c.loop-k.k c.falls-down.result (lent_as c.requires.0 c.loop-k.invariant.size) c.turn-x.ensures c.requires.1 c.loop-k-test.true in
+    omega arith
 
 pub loop-k-preserved : goal.loop-k-preserved
 loop-k-preserved c =

@@ -47,7 +47,7 @@ put_job-requires c =
 pub returns : goal.returns
 returns c =
     let j = c.args.j in
-    let a = accepted j refl c.in_ok-check.ensures in
+    let a = accepted _ refl c.in_ok-check.ensures in
     let e = rw (c.from.ensures, c.from-2.ensures, c.from-3.ensures) at c.total_of-total.ensures in
     record {
       first = then_first (limits j) (roomy j (length c.args.buf.now)) 0 (passes a) (inl (omega arith, refl));
