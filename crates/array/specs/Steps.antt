@@ -24,7 +24,7 @@ pub record Roomy (f : Frame) (places : List ℕ) : Type 0 where
 
 -- what a tick is lent: the input and the value table, places that suffice, and the timetable
 abbrev pub Supplied : Frame → List ℕ → List ℕ → List ℕ → List ℕ → Type 0
-Supplied f input values places timetable = Tabled f input × Tabled f values × Roomy f places × Timed f timetable
+Supplied f input values places timetable = Tabled f input × Tabled f values × Roomy f places × Timed f.job timetable
 
 -- the band of stream s, with the places that it has
 pub record BandOf (f : Frame) (s : ℕ) (band : List ℕ) : Type 0 where

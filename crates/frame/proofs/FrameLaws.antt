@@ -34,7 +34,6 @@ use Rattle.verdict.proofs.Accepted.{accepted_ahead, accepted_even, accepted_cell
 use Rattle.verdict.proofs.SizeLaws.{small_ends}
 use Rattle.frame.specs.Frames.{tick_of, cell_of}
 use Rattle.frame.specs.Framing.{Runnable, Timed}
-use Rattle.frame.specs.declared.Frame.{Frame}
 
 -- an accepted job may run
 pub accepted_runs : {j : Job} {z : Extent} → Says j (Accepted z) → Runnable j
@@ -113,10 +112,10 @@ module _ (j : Job) (a : Acceptable j) where
       (fits_limit R.low s.0, fits_limit R.high s.1, rw (held_as R.low s.0 tt, held_as R.high s.1 tt) (≤ℤ_trans q.0 q.1))
 
 -- ---- the timetable
--- one timetable has every tick, and behind them what it had
-pub timetable_unique : (f : Frame) (before v w : List ℕ) → Timed f v → Timed f w → length v ≡ length before → length w ≡ length before → ((i : ℕ) → points f.job ≤ i → get_or v i 0 ≡ get_or before i 0) → ((i : ℕ) → points f.job ≤ i → get_or w i 0 ≡ get_or before i 0) → v ≡ w
-timetable_unique f before v w p q ev ew rv rw' = ext_get_or 0 v w (ev ∙ sym ew) (λ i h. by i (dec_le (points f.job) i))
+-- one timetable has every tick of a job, and behind them what it had
+pub timetable_unique : (j : Job) (before v w : List ℕ) → Timed j v → Timed j w → length v ≡ length before → length w ≡ length before → ((i : ℕ) → points j ≤ i → get_or v i 0 ≡ get_or before i 0) → ((i : ℕ) → points j ≤ i → get_or w i 0 ≡ get_or before i 0) → v ≡ w
+timetable_unique j before v w p q ev ew rv rw' = ext_get_or 0 v w (ev ∙ sym ew) (λ i h. by i (dec_le (points j) i))
   where
-    by : (i : ℕ) → Dec (points f.job ≤ i) → get_or v i 0 ≡ get_or w i 0
+    by : (i : ℕ) → Dec (points j ≤ i) → get_or v i 0 ≡ get_or w i 0
     by i (yes h) = rv i h ∙ sym (rw' i h)
     by i (no h) = p.ticks i (omega arith) ∙ sym (q.ticks i (omega arith))

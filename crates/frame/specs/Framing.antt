@@ -53,7 +53,7 @@ pub record Stands (f : Frame) (spot : Spot) : Type 0 where
   pub point : entries spot.point ≡ point_of (box f.job) spot.place
   pub cell : spot.cell ≡ cell_of f.job spot.place
 
--- a timetable has the tick of every point
-pub record Timed (f : Frame) (timetable : List ℕ) : Type 0 where
-  pub size : points f.job ≤ length timetable
-  pub ticks : (k : ℕ) → k < points f.job → get_or timetable k 0 ≡ tick_of f.job k
+-- a timetable has the tick of every point of a job
+pub record Timed (j : Job) (timetable : List ℕ) : Type 0 where
+  pub size : points j ≤ length timetable
+  pub ticks : (k : ℕ) → k < points j → get_or timetable k 0 ≡ tick_of j k

@@ -96,7 +96,7 @@ pub const TIMETABLE: usize = 1024;
 // The tick of every point, in box order. (By place and no `iter_mut`: what is promised, `Timed`, is said of each place.)
 pub fn fill_timetable(f: Frame, timetable: &mut [u64])
     requires { Framed f × (points_of f.job ≤ length timetable.old) }
-    ensures timed { Timed f timetable.new }
+    ensures timed { Timed f.job timetable.new }
     ensures size { length timetable.new ≡ length timetable.old }
     ensures rest { (i : ℕ) → points_of f.job ≤ i → get_or timetable.new i 0 ≡ get_or timetable.old i 0 }
 {
