@@ -43,7 +43,8 @@ pub fn tick_of(
     )
 }
 
-// A run or a tick of a job with its verdict.
+// A run or a tick of a job with its verdict. (Never a part of its caller: the timetable is 8 KiB of stack, which bytes that are no job do not come to.)
+#[inline(never)]
 pub fn work_out(
     j: Job,
     v: Verdict,
