@@ -36,6 +36,10 @@ part_size l a n h = rw (add-sub_cancel_left a n) (length-take-le n (drop a l) (r
 pub roomy_as : {f : Frame} {before after : List ℕ} → Roomy f before → length after ≡ length before → Roomy f after
 roomy_as r e = record { enough = omega (arith, r.enough, e) }
 
+-- and so is a band
+pub band_as : {f : Frame} {s : ℕ} {before after : List ℕ} → BandOf f s before → length after ≡ length before → BandOf f s after
+band_as b e = record { stream = b.stream; size = e ∙ b.size }
+
 -- ---- the band of stream s
 -- the frame has it
 pub band_is : {f : Frame} {s : ℕ} {b : Band} → Framed f → s < f.job.m → b ≡ band_at f.bands s → Banded f.job s b

@@ -9,6 +9,10 @@ use Rattle.space.specs.Vectors.{entries, Sized}
 use Rattle.space.proofs.Parts.{int, difference, magnitude}
 use Rattle.layout.specs.Layout.{complement, InByte, InBytes}
 
+-- no entry is over 128 in size
+pub in_size : {z : ℤ} → InByte z → Size 128 z
+in_size {z} h = record { size = omega (int, magnitude z) }
+
 -- an entry of at most 127 in size
 size_held : {b : ℕ} {z : ℤ} → b ≤ 127 → Size b z → InByte z
 size_held {z = z} h p = record { low = omega (int, magnitude z, p.size); high = omega (int, magnitude z, p.size) }
